@@ -1,0 +1,5 @@
+# The two commands of the README. `make test` is the whole gate.
+.PHONY: test
+
+test:
+	@rt ci

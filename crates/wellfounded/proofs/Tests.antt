@@ -1,0 +1,62 @@
+-- Laws of tests that are said to be true.
+-- Assumes nothing.
+use mathlib.Core.Path.{_≡_, refl, sym, subst}
+use mathlib.Core.Logic.{_⊎_, inl, inr}
+use mathlib.Core.Bool.{Bool, true, false, not, cond, _&&_, _||_, false≢true}
+
+pub decided : (a : Bool) → (a ≡ true) ⊎ (a ≡ false)
+decided true = inl refl
+decided false = inr refl
+
+pub clash : {a : Bool} → a ≡ true → a ≡ false → ⊥
+clash {a} t f = false≢true (subst (λ (b : Bool). b ≡ true) f t)
+
+pub not-both : (a : Bool) → (a ≡ true → ⊥) → a ≡ false
+not-both true n = absurd (n refl)
+not-both false n = refl
+
+pub both : (a b : Bool) → a ≡ true → b ≡ true → (a && b) ≡ true
+both true b p q = q
+both false b p q = p
+
+pub first : (a b : Bool) → (a && b) ≡ true → a ≡ true
+first true b e = refl
+first false b e = e
+
+pub second : (a b : Bool) → (a && b) ≡ true → b ≡ true
+second true b e = e
+second false b e = absurd (false≢true e)
+
+pub either : (a b : Bool) → (a || b) ≡ true → (a ≡ true) ⊎ (b ≡ true)
+either true b e = inl refl
+either false b e = inr e
+
+pub or-left : (a b : Bool) → a ≡ true → (a || b) ≡ true
+or-left true b e = refl
+or-left false b e = absurd (false≢true e)
+
+pub or-right : (a b : Bool) → b ≡ true → (a || b) ≡ true
+or-right true b e = refl
+or-right false b e = e
+
+-- `not a || b` says that a implies b.
+pub implied : (a b : Bool) → (a ≡ true → b ≡ true) → (not a || b) ≡ true
+implied true b f = f refl
+implied false b f = refl
+
+pub imply : (a b : Bool) → (not a || b) ≡ true → a ≡ true → b ≡ true
+imply true b e t = e
+imply false b e t = absurd (false≢true t)
+
+pub same-test : (a b : Bool) → (a ≡ true → b ≡ true) → (b ≡ true → a ≡ true) → a ≡ b
+same-test true true f g = refl
+same-test true false f g = sym (f refl)
+same-test false true f g = g refl
+same-test false false f g = refl
+
+module _ {A : Type 0} where
+  pub cond-true : {a : Bool} (x y : A) → a ≡ true → cond a x y ≡ x
+  cond-true x y e = rw e
+
+  pub cond-false : {a : Bool} (x y : A) → a ≡ false → cond a x y ≡ y
+  cond-false x y e = rw e
