@@ -10,7 +10,7 @@ use native.Mathlib.Omega.{arith}
 use lib.Dec.{eqb, leb}
 use lib.ListN.{length, getD}
 use borrow.Author.Tests.{eqb-true, eq-eqb, leb-true, leb-false}
-use Rattle.wellfounded.specs.Lists.{all, any, tabulate, iterate, allBelow, count, least, same}
+use Rattle.wellfounded.specs.Lists.{all, any, tabulate, iterate, allBelow, anyBelow, count, least, same}
 use Rattle.wellfounded.proofs.Tests.{decided, clash, both, first, second, either, or-left, or-right}
 
 module _ {A : Type 0} where
@@ -56,6 +56,24 @@ module _ {A : Type 0} where
   getD-tabulate-beyond zero f k z h = refl
   getD-tabulate-beyond (suc n) f zero z h = absurd (not-suc-le-zero h)
   getD-tabulate-beyond (suc n) f (suc k) z h = getD-tabulate-beyond n (λ j. f (suc j)) k z (le-of-suc-le-suc h)
+
+  -- The members of a tabulated list are its entries.
+  pub member-tabulate : (n : ℕ) (f : ℕ → A) (k : ℕ) → k < n → List·Memᴰ (f k) (tabulate n f)
+  unfolding tabulate
+  member-tabulate zero f k l = absurd (not-suc-le-zero l)
+  member-tabulate (suc n) f zero l = List·Memᴰ·head refl
+  member-tabulate (suc n) f (suc k) l = List·Memᴰ·tail (member-tabulate n (λ j. f (suc j)) k (le-of-suc-le-suc l))
+
+  pub tabulate-member : (n : ℕ) (f : ℕ → A) {x : A} → List·Memᴰ x (tabulate n f) → (k : ℕ) × (k < n) × (x ≡ f k)
+  unfolding tabulate
+  tabulate-member zero f m = absurd (List·Memᴰ·not-nil m)
+  tabulate-member (suc n) f {x} m = step (λ there. tabulate-member n (λ k. f (suc k)) there) (List·Memᴰ·cases-cons m)
+    where
+      step :
+          (List·Memᴰ x (tabulate n (λ k. f (suc k))) → (k : ℕ) × (k < n) × (x ≡ f (suc k))) →
+          (x ≡ f zero) ⊎ List·Memᴰ x (tabulate n (λ k. f (suc k))) → (k : ℕ) × (k < suc n) × (x ≡ f k)
+      step later (inl e) = (zero, omega arith, e)
+      step later (inr there) = let found = later there in (suc (found .0), omega (arith, found .1), found .2)
 
   -- The default does not matter below the length.
   pub getD-default : (xs : List A) (k : ℕ) (y z : A) → k < length xs → getD xs k y ≡ getD xs k z
@@ -112,6 +130,24 @@ pub allBelow-make : (n : ℕ) (p : ℕ → Bool) → ((k : ℕ) → k < n → p 
 unfolding allBelow
 allBelow-make zero p h = refl
 allBelow-make (suc n) p h = both _ (p n) (allBelow-make n p (λ k l. h k (omega arith))) (h n (omega arith))
+
+pub anyBelow-use : (n : ℕ) (p : ℕ → Bool) → anyBelow n p ≡ true → (k : ℕ) × (k < n) × (p k ≡ true)
+unfolding anyBelow
+anyBelow-use zero p h = absurd (false≢true h)
+anyBelow-use (suc n) p h = step (λ t. anyBelow-use n p t) (either (anyBelow n p) _ h)
+  where
+    step :
+        (anyBelow n p ≡ true → (k : ℕ) × (k < n) × (p k ≡ true)) → (anyBelow n p ≡ true) ⊎ (p n ≡ true) →
+        (k : ℕ) × (k < suc n) × (p k ≡ true)
+    step earlier (inl t) = let found = earlier t in (found .0, omega arith, found .2)
+    step earlier (inr t) = (n, omega arith, t)
+
+pub anyBelow-make : (n : ℕ) (p : ℕ → Bool) (k : ℕ) → k < n → p k ≡ true → anyBelow n p ≡ true
+unfolding anyBelow
+anyBelow-make zero p k l h = absurd (not-suc-le-zero l)
+anyBelow-make (suc n) p k l h =
+    ⊎-elim (λ (e : k ≡ n). or-right (anyBelow n p) _ (ap p (sym e) ∙ h)) (λ (b : k < n). or-left _ _ (anyBelow-make n p k b h))
+    (eq-or-lt-of-le (le-of-suc-le-suc l))
 
 pub count-le : (n : ℕ) (p : ℕ → Bool) → count n p ≤ n
 unfolding count

@@ -8,7 +8,7 @@ use native.Mathlib.Numerals.{add-one}
 use native.Mathlib.Omega.{arith}
 use lib.ListN.{length, getD, take, drop, length-drop}
 use lib.Seq.{drop-cons, take-all, getD-drop}
-use Rattle.wellfounded.specs.Lists.{all}
+use Rattle.wellfounded.specs.Lists.{all, any}
 use Rattle.wellfounded.specs.Literals.{bodyAt, Scannable}
 
 -- The scan has come to i: what it would make of the literals from i on is what it makes of the whole body.
@@ -43,6 +43,27 @@ module _ {p : ℕ → Bool} {literals : List ℕ} {size : ℕ} where
   pub scan-end : {i : ℕ} → size ≤ i → Scanned p literals size i → all p (bodyAt literals 0 size) ≡ true
   unfolding all
   scan-end {i} h s = sym (rw (body-empty literals i size h) at (s .rest))
+
+-- A scan that stops at the first literal that passes: the same for "some" as `Scanned` is for "all".
+pub record Sought (p : ℕ → Bool) (literals : List ℕ) (size i : ℕ) : Type 0 where
+  pub low : i ≤ size
+  pub rest : any p (bodyAt literals i (size - i)) ≡ any p (bodyAt literals 0 size)
+
+module _ {p : ℕ → Bool} {literals : List ℕ} {size : ℕ} where
+  pub seek-start : Sought p literals size 0
+  seek-start = record { low = omega arith; rest = let e : size - 0 ≡ size = omega arith in rw e }
+
+  pub seek-turn : {i : ℕ} → i < size → i < length literals → p (getD literals i 0) ≡ false → Sought p literals size i → Sought p literals size (i + 1)
+  unfolding any
+  seek-turn {i} h l failed s = record { low = omega arith; rest = rw (body-cons literals i size h l, failed) at (s .rest) }
+
+  pub seek-stop : {i : ℕ} → i < size → i < length literals → p (getD literals i 0) ≡ true → Sought p literals size i → any p (bodyAt literals 0 size) ≡ true
+  unfolding any
+  seek-stop {i} h l passed s = sym (rw (body-cons literals i size h l, passed) at (s .rest))
+
+  pub seek-end : {i : ℕ} → size ≤ i → Sought p literals size i → any p (bodyAt literals 0 size) ≡ false
+  unfolding any
+  seek-end {i} h s = sym (rw (body-empty literals i size h) at (s .rest))
 
 -- The part `&literals[start..]` is the table from start on.
 pub part-is : (literals : List ℕ) (start : ℕ) → take (length literals - start) (drop start literals) ≡ drop start literals

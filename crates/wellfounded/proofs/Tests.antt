@@ -39,6 +39,21 @@ pub or-right : (a b : Bool) → b ≡ true → (a || b) ≡ true
 or-right true b e = refl
 or-right false b e = e
 
+pub neither : (a b : Bool) → (a || b) ≡ false → (a ≡ false) × (b ≡ false)
+neither true b e = absurd (false≢true (sym e))
+neither false b e = (refl, e)
+
+-- Where `a && not b` fails and a holds, b holds.
+pub not-lacking : (a b : Bool) → (a && not b) ≡ false → a ≡ true → b ≡ true
+not-lacking true true e t = refl
+not-lacking true false e t = sym e
+not-lacking false b e t = absurd (false≢true t)
+
+pub none-lacking : (a b : Bool) → (a ≡ true → b ≡ true) → (a && not b) ≡ false
+none-lacking true true f = refl
+none-lacking true false f = sym (f refl)
+none-lacking false b f = refl
+
 -- `not a || b` says that a implies b.
 pub implied : (a b : Bool) → (a ≡ true → b ≡ true) → (not a || b) ≡ true
 implied true b f = f refl

@@ -30,6 +30,11 @@ unfoldable pub allBelow : ℕ → (ℕ → Bool) → Bool
 allBelow zero p = true
 allBelow (suc n) p = allBelow n p && p n
 
+-- Some number below n passes the test.
+unfoldable pub anyBelow : ℕ → (ℕ → Bool) → Bool
+anyBelow zero p = false
+anyBelow (suc n) p = anyBelow n p || p n
+
 -- How many numbers below n pass the test.
 unfoldable pub count : ℕ → (ℕ → Bool) → ℕ
 count zero p = zero

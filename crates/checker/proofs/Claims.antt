@@ -1,0 +1,105 @@
+-- On sound tables no fault of the claim occurs exactly if the claim is right.
+-- Assumes nothing.
+use Prim.Native.Nat.{ℕ, _<_}
+use mathlib.Core.Path.{_≡_, refl, sym, ap, subst, _∙_}
+use mathlib.Core.Bool.{true, not}
+use mathlib.Core.List.{List, [], _∷_, List·Memᴰ, List·Memᴰ·head, List·Memᴰ·tail}
+use lib.ListN.{length}
+use lib.Dec.{eqb}
+use borrow.Author.Tests.{not-false, lt-ltb, eq-eqb}
+use Rattle.wellfounded.specs.Lists.{any}
+use Rattle.wellfounded.specs.Literals.{isFalse, valueAt}
+use Rattle.wellfounded.specs.Definitions.{Rule, isDefined}
+use Rattle.wellfounded.specs.Levels.{Blocks, levelInRange, blocks}
+use Rattle.wellfounded.proofs.Tests.{both, first, second, not-lacking, none-lacking}
+use Rattle.wellfounded.proofs.Lists.{any-use, any-make, anyBelow-make, member-tabulate, tabulate-member}
+use Rattle.wellfounded.proofs.Definitions.{defined-below, open-below}
+use Rattle.wellfounded.proofs.Levels.{levelInRange-open, levelInRange-defined, levelInRange-make, isSupported-use, isSupported-make, blocks-use, blocks-make}
+use Rattle.tables.specs.Faults.{Test, Absent}
+use Rattle.tables.specs.Rows.{ruleCount, ruleHead, ruleBody, ruleAt, rulesOf, headsRule, definitionOf}
+use Rattle.tables.specs.Sound.{Tables, bookOf, Sound}
+use Rattle.tables.proofs.Faults.{absent-more}
+use Rattle.tables.proofs.SoundTables.{sound-rules, slices-fit}
+use Rattle.tables.proofs.Satisfied.{absent-satisfies, satisfies-absent}
+use Rattle.checker.specs.Check.{badValue, badLevel, unsupported, unblocked, valueTest, levelTest, supportTest, blockingTest, claimTests, RightClaim}
+
+module _ (t : Tables) (values levels : List ℕ) where
+  abbrev pub lengths : List ℕ
+  lengths = length values ∷ length levels ∷ []
+
+  -- A rule of the book stands in a row.
+  rule-row :
+      (r : Rule) → List·Memᴰ r (bookOf t .rules) →
+      (row : ℕ) × (row < ruleCount (t .rules)) × (r ≡ ruleAt (t .rules) (t .literals) row)
+  unfolding bookOf definitionOf rulesOf
+  rule-row r m = tabulate-member _ _ m
+
+  row-defined : Sound t lengths → (row : ℕ) → row < ruleCount (t .rules) → isDefined (bookOf t) (ruleHead (t .rules) row) ≡ true
+  unfolding bookOf definitionOf isDefined headsRule
+  row-defined sound row l =
+      both _ _ (lt-ltb _ _ (sound-rules t (sound .tables) .heads row l))
+      (anyBelow-make (ruleCount (t .rules)) (λ k. eqb (ruleHead (t .rules) k) (ruleHead (t .rules) row)) row l (eq-eqb (ruleHead (t .rules) row) _ refl))
+
+  pub claim-right : Sound t lengths → ((test : Test) → List·Memᴰ test (claimTests t values levels) → Absent test) → RightClaim t values levels
+  unfolding claimTests valueTest levelTest supportTest blockingTest badValue badLevel unsupported unblocked bookOf definitionOf ruleAt
+  claim-right sound none =
+      record {
+        twoValued = record {
+          size = slices-fit (t .atoms) lengths (sound .slices) (length values) (List·Memᴰ·head refl);
+          held = λ atom l. not-false _ (none _ (List·Memᴰ·head refl) .nowhere atom l);
+        };
+        obeys = record {
+          openLevel = λ atom o. levelInRange-open (bookOf t) levels atom (in-range atom (open-below (bookOf t) atom o)) o;
+          definedLevel = λ atom d. levelInRange-defined (bookOf t) levels atom (in-range atom (defined-below (bookOf t) atom d)) d;
+          supported = λ atom d v. isSupported-use (bookOf t) values levels atom (not-lacking _ _ (none _ (List·Memᴰ·tail (List·Memᴰ·tail (List·Memᴰ·head refl))) .nowhere atom (defined-below (bookOf t) atom d)) (both _ _ d v));
+          blocked = blocked;
+        };
+        satisfies = absent-satisfies t values (λ test m. none test (List·Memᴰ·tail (List·Memᴰ·tail (List·Memᴰ·tail (List·Memᴰ·tail m)))));
+      }
+    where
+      in-range : (atom : ℕ) → atom < t .atoms → levelInRange (bookOf t) levels atom ≡ true
+      in-range atom l = not-false _ (none _ (List·Memᴰ·tail (List·Memᴰ·head refl)) .nowhere atom l)
+
+      blocked-row :
+          (row : ℕ) → row < ruleCount (t .rules) → isFalse (valueAt values (ruleHead (t .rules) row)) ≡ true →
+          (literal : ℕ) × List·Memᴰ literal (ruleBody (t .rules) (t .literals) row) × Blocks (bookOf t) values levels (ruleHead (t .rules) row) literal
+      blocked-row row l f =
+          let d = bookOf t in
+          let head = ruleHead (t .rules) row in
+          let found =
+          any-use (blocks d values levels head) (ruleBody (t .rules) (t .literals) row)
+          (not-lacking _ _ (none _ (List·Memᴰ·tail (List·Memᴰ·tail (List·Memᴰ·tail (List·Memᴰ·head refl)))) .nowhere row l) f)
+          in
+          (found .0, found .1, blocks-use d values levels head (found .0) (found .2))
+
+      moved :
+          (atom row : ℕ) → ruleHead (t .rules) row ≡ atom →
+          (literal : ℕ) × List·Memᴰ literal (ruleBody (t .rules) (t .literals) row) × Blocks (bookOf t) values levels (ruleHead (t .rules) row) literal →
+          (literal : ℕ) × List·Memᴰ literal (ruleBody (t .rules) (t .literals) row) × Blocks (bookOf t) values levels atom literal
+      moved atom row e found = (found .0, found .1, subst (λ (a : ℕ). Blocks (bookOf t) values levels a (found .0)) e (found .2))
+
+      blocked :
+          (atom : ℕ) → isDefined (bookOf t) atom ≡ true → isFalse (valueAt values atom) ≡ true →
+          (r : Rule) → List·Memᴰ r (bookOf t .rules) → r .head ≡ atom →
+          (literal : ℕ) × List·Memᴰ literal (r .body) × Blocks (bookOf t) values levels atom literal
+      blocked atom d f r m e =
+          let at = rule-row r m in
+          subst (λ (x : Rule). x .head ≡ atom → (literal : ℕ) × List·Memᴰ literal (x .body) × Blocks (bookOf t) values levels atom literal) (sym (at .2))
+          (λ head. moved atom (at .0) head (blocked-row (at .0) (at .1) (ap (λ (a : ℕ). isFalse (valueAt values a)) head ∙ f))) e
+
+  pub right-claim : Sound t lengths → RightClaim t values levels → (test : Test) → List·Memᴰ test (claimTests t values levels) → Absent test
+  unfolding claimTests valueTest levelTest supportTest blockingTest badValue badLevel unsupported unblocked bookOf definitionOf rulesOf ruleAt
+  right-claim sound right =
+      absent-more (record { nowhere = λ atom l. ap not (right .twoValued .held atom l) })
+      (absent-more (record { nowhere = λ atom l. ap not (levelInRange-make (bookOf t) levels atom l (right .obeys .openLevel atom) (right .obeys .definedLevel atom)) })
+      (absent-more (record { nowhere = λ atom l. none-lacking _ _ (λ dv. isSupported-make (bookOf t) values levels atom (right .obeys .supported atom (first _ _ dv) (second (isDefined (bookOf t) atom) _ dv))) })
+      (absent-more (record { nowhere = λ row l. none-lacking _ _ (blocking row l) })
+      (satisfies-absent t values (right .satisfies)))))
+    where
+      blocking : (row : ℕ) → row < ruleCount (t .rules) → isFalse (valueAt values (ruleHead (t .rules) row)) ≡ true → any (blocks (bookOf t) values levels (ruleHead (t .rules) row)) (ruleBody (t .rules) (t .literals) row) ≡ true
+      blocking row l f =
+          let found =
+          right .obeys .blocked (ruleHead (t .rules) row) (row-defined sound row l) f (ruleAt (t .rules) (t .literals) row)
+          (member-tabulate (ruleCount (t .rules)) (ruleAt (t .rules) (t .literals)) row l) refl
+          in
+          any-make (blocks (bookOf t) values levels (ruleHead (t .rules) row)) _ (found .1) (blocks-make (bookOf t) values levels _ (found .0) (found .2))

@@ -1,0 +1,65 @@
+-- The check: its faults in order, and what an accepted claim is.
+use Prim.Native.Nat.{ℕ}
+use mathlib.Core.Bool.{Bool, not, _&&_}
+use mathlib.Core.List.{List, [], _∷_, _++_}
+use lib.ListN.{length}
+use Rattle.wellfounded.specs.Lists.{any}
+use Rattle.wellfounded.specs.Literals.{isTrue, isFalse, isHeld, valueAt}
+use Rattle.wellfounded.specs.Definitions.{Definition, isDefined}
+use Rattle.wellfounded.specs.Stages.{TwoValued}
+use Rattle.wellfounded.specs.Levels.{Obeys, levelInRange, isSupported, blocks}
+use Rattle.tables.specs.declared.Fault.the-variants.{Value, Level, Unsupported, Unblocked}
+use Rattle.tables.specs.declared.Verdict.{Verdict}
+use Rattle.tables.specs.Faults.{Test, firstFault}
+use Rattle.tables.specs.Rows.{ruleCount, ruleHead, ruleBody}
+use Rattle.tables.specs.Sound.{Tables, bookOf, tableTests, sliceTest}
+use Rattle.tables.specs.Satisfied.{Satisfies, satisfactionTests}
+
+-- 21: a value that is not 0 or 1.
+unfoldable pub badValue : List ℕ → ℕ → Bool
+badValue values atom = not (isHeld (valueAt values atom))
+
+-- 22: a level that is not 0 at an open atom, or outside 1 to D at a defined one.
+unfoldable pub badLevel : Definition → List ℕ → ℕ → Bool
+badLevel d levels atom = not (levelInRange d levels atom)
+
+-- 23: a true defined atom without its rule.
+unfoldable pub unsupported : Definition → List ℕ → List ℕ → ℕ → Bool
+unsupported d values levels atom = isDefined d atom && isTrue (valueAt values atom) && not (isSupported d values levels atom)
+
+-- 24: a rule row of a false atom that has no blocking literal.
+unfoldable pub unblocked : Definition → List ℕ → List ℕ → List ℕ → List ℕ → ℕ → Bool
+unblocked d rules literals values levels row =
+    isFalse (valueAt values (ruleHead rules row))
+    && not (any (blocks d values levels (ruleHead rules row)) (ruleBody rules literals row))
+
+unfoldable pub valueTest : Tables → List ℕ → Test
+valueTest t values = record { fault = Value; positions = t .atoms; bad = badValue values }
+
+unfoldable pub levelTest : Tables → List ℕ → Test
+levelTest t levels = record { fault = Level; positions = t .atoms; bad = badLevel (bookOf t) levels }
+
+unfoldable pub supportTest : Tables → List ℕ → List ℕ → Test
+supportTest t values levels = record { fault = Unsupported; positions = t .atoms; bad = unsupported (bookOf t) values levels }
+
+unfoldable pub blockingTest : Tables → List ℕ → List ℕ → Test
+blockingTest t values levels =
+    record { fault = Unblocked; positions = ruleCount (t .rules); bad = unblocked (bookOf t) (t .rules) (t .literals) values levels }
+
+-- The faults of a claim, in the order in which they are looked for.
+unfoldable pub claimTests : Tables → List ℕ → List ℕ → List Test
+claimTests t values levels =
+    valueTest t values ∷ levelTest t levels ∷ supportTest t values levels ∷ blockingTest t values levels ∷ satisfactionTests t values
+
+-- The faults of a call of the check: those of the tables, of the slices lent with them, and of the claim.
+unfoldable pub checkTests : Tables → List ℕ → List ℕ → List Test
+checkTests t values levels = tableTests t ++ (sliceTest (t .atoms) (length values ∷ length levels ∷ []) ∷ claimTests t values levels)
+
+unfoldable pub checkOf : Tables → List ℕ → List ℕ → Verdict
+checkOf t values levels = firstFault (checkTests t values levels)
+
+-- What the check accepts on sound tables: values 0 and 1 that obey the level rules and satisfy every clause and load line.
+pub record RightClaim (t : Tables) (values levels : List ℕ) : Type 0 where
+  pub twoValued : TwoValued (bookOf t) values
+  pub obeys : Obeys (bookOf t) values levels
+  pub satisfies : Satisfies t values

@@ -1,0 +1,34 @@
+-- What the scans of a claim read, and the support that they mark.
+use Prim.Native.Nat.{ℕ, _≤_, _<_}
+use mathlib.Core.Path.{_≡_}
+use mathlib.Core.Bool.{Bool, _&&_}
+use mathlib.Core.List.{List}
+use lib.Dec.{eqb}
+use lib.ListN.{length}
+use Rattle.wellfounded.specs.Lists.{all, anyBelow}
+use Rattle.wellfounded.specs.Literals.{isTrue, valueAt}
+use Rattle.wellfounded.specs.Definitions.{Definition, isDefined}
+use Rattle.wellfounded.specs.Levels.{supports}
+use Rattle.tables.specs.Rows.{ruleHead, ruleBody}
+use Rattle.tables.specs.Marks.{isMarked}
+
+-- What the scans of a claim read: marks that tell the defined atoms, and a value and a level for each atom.
+pub record Readable (d : Definition) (defined values levels : List ℕ) : Type 0 where
+  pub room : d .size ≤ length defined
+  pub tells : (atom : ℕ) → atom < d .size → isMarked defined atom ≡ isDefined d atom
+  pub valued : length values ≡ d .size
+  pub levelled : length levels ≡ d .size
+
+-- A slot for the atom in each of the three.
+pub record Reached (atom : ℕ) (defined values levels : List ℕ) : Type 0 where
+  pub mark : atom < length defined
+  pub value : atom < length values
+  pub level : atom < length levels
+
+-- One of the first n rule rows supports the atom, which is true.
+unfoldable pub supportedBy : Definition → List ℕ → List ℕ → List ℕ → List ℕ → ℕ → ℕ → Bool
+supportedBy d rules literals values levels n atom =
+    anyBelow n
+    (λ row.
+    eqb (ruleHead rules row) atom
+    && (isTrue (valueAt values (ruleHead rules row)) && all (supports d values levels (ruleHead rules row)) (ruleBody rules literals row)))

@@ -1,0 +1,88 @@
+// Rules of false atoms and the literals that block them.
+ghost use mathlib.Core.Path.{_≡_};
+ghost use Prim.Native.Nat.{ℕ, _<_};
+ghost use lib.ListN.{length, getD};
+ghost use Rattle.wellfounded.specs.Literals.{atomOf};
+ghost use Rattle.wellfounded.specs.Definitions.{Definition};
+ghost use Rattle.wellfounded.specs.Levels.{levelAt, blocks};
+ghost use Rattle.tables.specs.Faults.{lowest};
+ghost use Rattle.tables.specs.Rows.{ruleCount, definitionOf};
+ghost use Rattle.tables.specs.Satisfied.{RulesScannable};
+ghost use Rattle.checker.specs.Check.{unblocked};
+ghost use Rattle.checker.specs.Marks.{Readable, Reached};
+use tables::Found;
+use tables::rows::RULE_WIDTH;
+use tables::rows::entry;
+use wellfounded::atom_of;
+use wellfounded::is_negated;
+use wellfounded::literal_false;
+
+// Whether the literal at place `i` of a body blocks a rule for a false atom at the level: it is false, and open, or
+// positive and defined at a level no higher, or negated and defined at a strictly lower level.
+fn literal_blocks(
+    body: &[u16],
+    i: usize,
+    level: u16,
+    defined: &[u8],
+    values: &[u8],
+    levels: &[u16],
+) -> bool
+    requires { ⌜ (i < length (now body)) × Reached (atomOf (getD (now body) i 0)) (now defined) (now values) (now levels) ⌝ }
+    ensures { λ r. ⌜ ((d : Definition) (atom : ℕ) → Readable d (now (defined .entry)) (now (values .entry)) (now (levels .entry)) →
+        levelAt (now (levels .entry)) atom ≡ level →
+        r ≡ blocks d (now (values .entry)) (now (levels .entry)) atom (getD (now (body .entry)) i 0)) ⌝ }
+{
+    let literal = body[i];
+    if !literal_false(literal, values) {
+        return false;
+    }
+    let atom = atom_of(literal);
+    if defined[atom] != 1 {
+        return true;
+    }
+    if is_negated(literal) {
+        levels[atom] < level
+    } else {
+        levels[atom] <= level
+    }
+}
+
+// The lowest rule row of a false atom with no blocking literal.
+pub fn unblocked_row(
+    rules: &[u16],
+    literals: &[u16],
+    defined: &[u8],
+    values: &[u8],
+    levels: &[u16],
+) -> Found
+    requires { ⌜ RulesScannable (now rules) (now literals) (length (now values)) ⌝ }
+    requires { ⌜ Readable (definitionOf (length (now values)) (now rules) (now literals)) (now defined) (now values) (now levels) ⌝ }
+    ensures { λ r. ⌜ r ≡ lowest (ruleCount (now (rules .entry)))
+        (unblocked (definitionOf (length (now (values .entry))) (now (rules .entry)) (now (literals .entry)))
+        (now (rules .entry)) (now (literals .entry)) (now (values .entry)) (now (levels .entry))) ⌝ }
+{
+    let rows = rules.len() / RULE_WIDTH;
+    let mut next = 0;
+    let mut found = Found::Nothing;
+    'rows: while next < rows {
+        let row = next;
+        next += 1;
+        let head = entry(rules, row * RULE_WIDTH);
+        if values[head] != 0 {
+            continue 'rows;
+        }
+        let start = entry(rules, row * RULE_WIDTH + 1);
+        let size = entry(rules, row * RULE_WIDTH + 2);
+        let level = levels[head];
+        let mut i = 0;
+        while i < size {
+            if literal_blocks(&literals[start..], i, level, defined, values, levels) {
+                continue 'rows;
+            }
+            i += 1;
+        }
+        found = Found::At(row);
+        break 'rows;
+    }
+    found
+}

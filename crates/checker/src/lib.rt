@@ -1,0 +1,4 @@
+// The check of a claim on lent tables.
+pub mod blocking;
+pub mod levels;
+pub mod support;

@@ -1,0 +1,237 @@
+-- Laws of signed numbers, of what minutes count, and of the sums of load lines.
+-- Assumes nothing.
+use Prim.Native.Nat.{ℕ, zero, suc, _+_, _-_, _*_, _≤_, _<_}
+use mathlib.Core.Path.{_≡_, refl, sym, ap, fun-ext}
+use mathlib.Core.Bool.{Bool, true, false, cond, _&&_, false≢true}
+use mathlib.Core.List.{List, [], _∷_}
+use native.Mathlib.Omega.{arith}
+use lib.IntN.{ℤ, pos, negsuc, negℤ, natAbs, subℕ, _+ℤ_, _-ℤ_, +ℤ-assoc, +ℤ-idl, +ℤ-idr}
+use lib.Dec.{T, ltb}
+use lib.Signed.{ltZ, leZ, nonNeg, _≤ℤ_, leZ-yes}
+use lib.ListN.{length, getD, take, drop, length-drop}
+use lib.Seq.{take-all, getD-drop}
+use mir.Syntax.{Width, w16, w32}
+use mir.Val.{SFits, toZ, ofZ}
+use mir.Facts.{toZ-ofZ}
+use borrow.Author.Tests.{ltb-true}
+use Rattle.wellfounded.specs.Lists.{tabulate}
+use Rattle.wellfounded.specs.Literals.{literalTrue}
+use Rattle.wellfounded.proofs.Tests.{first, second, both}
+use Rattle.tables.specs.Loads.{roundTenth, tenths, Load, Counted, termCount, loadSum, loadHolds, indexOf, loadEntry, loadCount, loadLow, loadHigh, loadStart, loadSize, loadAt, termAt, termsAt}
+use Rattle.tables.specs.Satisfied.{LoadsScannable, TermsScannable}
+
+-- ── Signs and magnitudes ──
+
+-- What the code's test of a sign tells.
+pub record Negative (z : ℤ) : Type 0 where
+  pub magnitude : pos 0 -ℤ z ≡ pos (natAbs z)
+  pub index : 0 ≡ indexOf z
+  pub counts : tenths z ≡ pos 0 -ℤ pos (roundTenth (natAbs z))
+
+pub record NotNegative (z : ℤ) : Type 0 where
+  pub passes : T (nonNeg z)
+  pub index : natAbs z ≡ indexOf z
+  pub counts : tenths z ≡ pos (roundTenth (natAbs z))
+
+negative : (z : ℤ) → ltZ z (pos 0) ≡ true → Negative z
+unfolding indexOf tenths
+negative (pos n) h = absurd (omega (arith, ltb-true n 0 h))
+negative (negsuc n) h = record { magnitude = +ℤ-idl (pos (suc n)); index = refl; counts = sym (+ℤ-idl _) }
+
+not-negative : (z : ℤ) → ltZ z (pos 0) ≡ false → NotNegative z
+unfolding indexOf tenths
+not-negative (pos n) h = record { passes = tt; index = refl; counts = refl }
+not-negative (negsuc n) h = absurd (false≢true (sym h))
+
+-- The code tests a number as it reads it back from its bits.
+pub is-negative : {w : Width} {z : ℤ} → SFits w z → ltZ (toZ w (ofZ w z)) (pos 0) ≡ true → Negative z
+is-negative {z = z} fits h = negative z (rw (toZ-ofZ fits) at h)
+
+pub is-not-negative : {w : Width} {z : ℤ} → SFits w z → ltZ (toZ w (ofZ w z)) (pos 0) ≡ false → NotNegative z
+is-not-negative {z = z} fits h = not-negative z (rw (toZ-ofZ fits) at h)
+
+pub magnitude-negated : (z : ℤ) → natAbs (negℤ z) ≡ natAbs z
+magnitude-negated (pos zero) = refl
+magnitude-negated (pos (suc n)) = refl
+magnitude-negated (negsuc n) = refl
+
+magnitude-difference : (a b : ℕ) → natAbs (subℕ a b) ≤ a + b
+magnitude-difference a b = go (ltb a b) refl
+  where
+    go : (t : Bool) → ltb a b ≡ t → natAbs (cond t (negsuc (b - suc a)) (pos (a - b))) ≤ a + b
+    go true e = omega (arith, ltb-true a b e)
+    go false e = omega arith
+
+pub magnitude-sum : (a b : ℤ) → natAbs (a +ℤ b) ≤ natAbs a + natAbs b
+magnitude-sum (pos a) (pos b) = omega arith
+magnitude-sum (pos a) (negsuc b) = magnitude-difference a (suc b)
+magnitude-sum (negsuc a) (pos b) = omega (arith, magnitude-difference b (suc a))
+magnitude-sum (negsuc a) (negsuc b) = omega arith
+
+pub magnitude-fits : (z : ℤ) → natAbs z < 2147483648 → SFits w32 z
+magnitude-fits (pos n) l = omega arith
+magnitude-fits (negsuc n) l = omega arith
+
+minutes-magnitude : (z : ℤ) → SFits w16 z → natAbs z ≤ 32768
+minutes-magnitude (pos n) f = omega arith
+minutes-magnitude (negsuc n) f = omega arith
+
+pub minutes-small : {z : ℤ} → SFits w16 z → natAbs z ≤ 32768
+minutes-small {z} f = minutes-magnitude z f
+
+-- ── Tenths ──
+
+pub round-small : (n : ℕ) → n ≤ 32768 → roundTenth n ≤ 5461
+unfolding roundTenth
+round-small n l = omega arith
+
+tenths-magnitude : (z : ℤ) → natAbs (tenths z) ≡ roundTenth (natAbs z)
+unfolding tenths
+tenths-magnitude (pos n) = refl
+tenths-magnitude (negsuc n) = magnitude-negated (pos (roundTenth (suc n)))
+
+pub tenths-small : {z : ℤ} → SFits w16 z → natAbs (tenths z) ≤ 5461
+tenths-small {z} f = rw (tenths-magnitude z) (round-small _ (minutes-small f))
+
+-- A small answer is read back from its bits as it is.
+pub counted-back : {count answer : ℤ} → Counted count answer → Counted count (toZ w32 (ofZ w32 answer))
+counted-back {count} {answer} c = rw (toZ-ofZ (magnitude-fits answer (omega (arith, c .small)))) c
+
+module _ (values literals : List ℕ) (minutes : List ℤ) (place : ℕ) where
+  pub term-true : literalTrue values (getD literals place 0) ≡ true → termCount values (termAt literals minutes place) ≡ tenths (getD minutes place (pos 0))
+  unfolding termCount termAt
+  term-true h = rw h
+
+  pub term-false : literalTrue values (getD literals place 0) ≡ false → termCount values (termAt literals minutes place) ≡ pos 0
+  unfolding termCount termAt
+  term-false h = rw h
+
+-- ── The entries of a row ──
+
+pub row-low : (loads : List ℤ) (row : ℕ) → getD loads (row * 4) (pos 0) ≡ loadLow loads row
+unfolding loadLow loadEntry
+row-low loads row = let e : row * 4 + 0 ≡ row * 4 = omega arith in rw e
+
+pub row-high : (loads : List ℤ) (row : ℕ) → getD loads (row * 4 + 1) (pos 0) ≡ loadHigh loads row
+unfolding loadHigh loadEntry
+row-high loads row = refl
+
+pub row-start : (loads : List ℤ) (row : ℕ) → indexOf (getD loads (row * 4 + 2) (pos 0)) ≡ loadStart loads row
+unfolding loadStart loadEntry
+row-start loads row = refl
+
+pub row-size : (loads : List ℤ) (row : ℕ) → indexOf (getD loads (row * 4 + 3) (pos 0)) ≡ loadSize loads row
+unfolding loadSize loadEntry
+row-size loads row = refl
+
+pub row-holds :
+    (values : List ℕ) (loads : List ℤ) (literals : List ℕ) (minutes : List ℤ) (row : ℕ) {sum : ℤ} →
+    sum ≡ loadSum values (termsAt literals minutes (loadStart loads row) (loadSize loads row)) →
+    (leZ (loadLow loads row) sum && leZ sum (loadHigh loads row)) ≡ loadHolds values (loadAt loads literals minutes row)
+unfolding loadHolds loadAt
+row-holds values loads literals minutes row e = rw e
+
+-- ── The terms of a row ──
+
+pub terms-empty : (literals : List ℕ) (minutes : List ℤ) (i size : ℕ) → size ≤ i → termsAt literals minutes i (size - i) ≡ []
+unfolding termsAt tabulate
+terms-empty literals minutes i size h = let e : size - i ≡ 0 = omega arith in rw e
+
+pub terms-cons :
+    (literals : List ℕ) (minutes : List ℤ) (i size : ℕ) → i < size →
+    termsAt literals minutes i (size - i) ≡ termAt literals minutes i ∷ termsAt literals minutes (i + 1) (size - (i + 1))
+unfolding termsAt tabulate
+terms-cons literals minutes i size h =
+    let e : size - i ≡ suc (size - (i + 1)) = omega arith in
+    let here : i + 0 ≡ i = omega arith in
+    let later : (k : ℕ) → i + suc k ≡ i + 1 + k = λ k. omega arith in
+    rw e (cc (ap (termAt literals minutes) here, ap (tabulate (size - (i + 1))) (fun-ext (λ k. ap (termAt literals minutes) (later k)))))
+
+-- The part `&table[start..]` is the table from start on, and a row at start is one at the beginning of the parts.
+pub part-is : {A : Type 0} (table : List A) (start : ℕ) → take (length table - start) (drop start table) ≡ drop start table
+part-is table start = take-all (length table - start) (drop start table) (rw length-drop (omega arith))
+
+module _ (literals : List ℕ) (minutes : List ℤ) (start size : ℕ) where
+  pub part-terms :
+      termsAt (take (length literals - start) (drop start literals)) (take (length minutes - start) (drop start minutes)) 0 size
+      ≡ termsAt literals minutes start size
+  unfolding termsAt termAt
+  part-terms =
+      let same : (k : ℕ) → termAt (drop start literals) (drop start minutes) (0 + k) ≡ termAt literals minutes (start + k) =
+      λ k. let e : 0 + k ≡ k = omega arith in rw (e, getD-drop start minutes, getD-drop start literals) in
+      rw (part-is literals start, part-is minutes start) (ap (tabulate size) (fun-ext same))
+
+-- ── What a scan needs ──
+
+pub row-scannable :
+    {loads : List ℤ} {literals : List ℕ} {minutes : List ℤ} {atoms : ℕ} (row : ℕ) → row < loadCount loads → LoadsScannable loads literals minutes atoms →
+    TermsScannable literals minutes (loadStart loads row) (loadSize loads row) atoms
+row-scannable row l s =
+    record { within = s .within row l; known = s .known; paired = s .paired; few = omega (arith, s .within row l, s .few) }
+
+pub part-scannable :
+    {literals : List ℕ} {minutes : List ℤ} {start size atoms : ℕ} → TermsScannable literals minutes start size atoms →
+    TermsScannable (take (length literals - start) (drop start literals)) (take (length minutes - start) (drop start minutes)) 0 size atoms
+part-scannable {literals} {minutes} {start} s =
+    rw (part-is literals start, part-is minutes start) (record {
+      within = rw length-drop (omega (arith, s .within));
+      known = λ place l. rw getD-drop (s .known (start + place) (omega (arith, rw length-drop at l)));
+      paired = simp length-drop (omega (arith, s .paired));
+      few = s .few;
+    })
+
+pub term-scannable :
+    {literals : List ℕ} {minutes : List ℤ} {size atoms i : ℕ} → i < size → TermsScannable literals minutes 0 size atoms →
+    TermsScannable literals minutes i 1 atoms
+term-scannable h s = record { within = omega (arith, s .within); known = s .known; paired = s .paired; few = omega arith }
+
+-- ── The sum of a row ──
+
+-- The scan has come to i: the sum so far, with what the terms from i on come to, is the sum of the row.
+pub record Summed (values literals : List ℕ) (minutes : List ℤ) (size i : ℕ) (sum : ℤ) : Type 0 where
+  pub low : i ≤ size
+  pub rest : sum +ℤ loadSum values (termsAt literals minutes i (size - i)) ≡ loadSum values (termsAt literals minutes 0 size)
+  pub small : natAbs sum ≤ 5461 * i
+
+module _ {values literals : List ℕ} {minutes : List ℤ} {size : ℕ} where
+  pub sum-start : Summed values literals minutes size 0 (pos 0)
+  sum-start = record { low = omega arith; rest = let e : size - 0 ≡ size = omega arith in rw (e, +ℤ-idl); small = omega arith }
+
+  pub sum-turn :
+      {i : ℕ} {sum count : ℤ} → i < size → Counted (termCount values (termAt literals minutes i)) count →
+      Summed values literals minutes size i sum → Summed values literals minutes size (i + 1) (sum +ℤ count)
+  unfolding loadSum
+  sum-turn {i} {sum} {count} h c s =
+      record {
+        low = omega arith;
+        rest = rw (+ℤ-assoc, c .is) (rw (terms-cons literals minutes i size h) at (s .rest));
+        small = omega (arith, s .small, c .small, magnitude-sum sum count);
+      }
+
+  pub sum-end : {i : ℕ} {sum : ℤ} → size ≤ i → Summed values literals minutes size i sum → sum ≡ loadSum values (termsAt literals minutes 0 size)
+  unfolding loadSum
+  sum-end {i} h s = rw (terms-empty literals minutes i size h, +ℤ-idr) at (s .rest)
+
+-- ── The test of a load line, and what it says ──
+
+passed : {a b : ℤ} → leZ a b ≡ true → a ≤ℤ b
+passed h = leZ-yes (rw h tt)
+
+test-true : (t : Bool) → T t → t ≡ true
+test-true true h = refl
+test-true false h = absurd h
+
+meets : {a b : ℤ} → a ≤ℤ b → leZ a b ≡ true
+meets {a} {b} h = test-true (leZ a b) (h .le)
+
+module _ (values : List ℕ) (load : Load) where
+  pub load-holds-use : loadHolds values load ≡ true → (load .low ≤ℤ loadSum values (load .terms)) × (loadSum values (load .terms) ≤ℤ load .high)
+  unfolding loadHolds
+  load-holds-use h =
+      let low = leZ (load .low) (loadSum values (load .terms)) in
+      let high = leZ (loadSum values (load .terms)) (load .high) in
+      (passed (first low high h), passed (second low high h))
+
+  pub load-holds-make : (load .low ≤ℤ loadSum values (load .terms)) × (loadSum values (load .terms) ≤ℤ load .high) → loadHolds values load ≡ true
+  unfolding loadHolds
+  load-holds-make h = both _ _ (meets (h .0)) (meets (h .1))

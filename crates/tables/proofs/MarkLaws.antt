@@ -1,0 +1,134 @@
+-- Laws of marks: what a mark reads, and a loop over rule rows that puts 1 at the atoms which pass a test of the row.
+-- Assumes nothing.
+use Prim.Native.Nat.{ℕ, _+_, _<_}
+use mathlib.Core.Path.{_≡_, refl, sym, ap, _∙_, fun-ext}
+use mathlib.Core.Logic.{⊎-elim}
+use mathlib.Core.Bool.{Bool, true, false, cond, _&&_, _||_, false≢true}
+use mathlib.Core.List.{List}
+use native.Mathlib.Numerals.{add-one}
+use native.Mathlib.Omega.{arith}
+use lib.Dec.{eqb}
+use lib.ListN.{length, getD, set, length-set}
+use lib.Seq.{ext-getD, getD-set-same, getD-set-other}
+use borrow.Author.Tests.{eqb-true, eqb-false, eq-eqb, ne-eqb}
+use Rattle.wellfounded.specs.Lists.{anyBelow, count}
+use Rattle.wellfounded.specs.Literals.{isTrue, valueAt}
+use Rattle.wellfounded.proofs.Lists.{length-tabulate, getD-tabulate, getD-default}
+use Rattle.wellfounded.proofs.Literals.{true-test}
+use Rattle.wellfounded.proofs.Tests.{decided, both, or-right}
+use Rattle.tables.specs.Marks.{isMarked, markWhere}
+
+or-none : (a b : Bool) → b ≡ false → (a || b) ≡ a
+or-none true b none = refl
+or-none false b none = none
+
+and-left : (a b : Bool) → a ≡ false → (a && b) ≡ false
+and-left true b none = absurd (false≢true (sym none))
+and-left false b none = refl
+
+and-right : (a b : Bool) → b ≡ false → (a && b) ≡ false
+and-right true b none = none
+and-right false b none = refl
+
+pub mark-length : (passes : ℕ → Bool) (marks : List ℕ) → length (markWhere passes marks) ≡ length marks
+unfolding markWhere
+mark-length passes marks = length-tabulate _ _
+
+pub mark-at :
+    (passes : ℕ → Bool) (marks : List ℕ) (atom : ℕ) → atom < length marks →
+    getD (markWhere passes marks) atom 0 ≡ cond (passes atom) 1 (getD marks atom 0)
+unfolding markWhere
+mark-at passes marks atom l = getD-tabulate _ _ atom 0 l
+
+pub marked-where :
+    (passes : ℕ → Bool) (marks : List ℕ) (atom : ℕ) → atom < length marks →
+    isMarked (markWhere passes marks) atom ≡ (passes atom || isMarked marks atom)
+unfolding isMarked
+marked-where passes marks atom l = rw (mark-at passes marks atom l) (step (passes atom))
+  where
+    step : (b : Bool) → eqb (cond b 1 (getD marks atom 0)) 1 ≡ (b || eqb (getD marks atom 0) 1)
+    step true = refl
+    step false = refl
+
+pub mark-none : (marks : List ℕ) → markWhere (λ atom. false) marks ≡ marks
+mark-none marks = ext-getD 0 _ _ (mark-length _ marks) (λ atom l. mark-at _ marks atom (rw mark-length at l))
+
+-- Tests that agree make the same marks.
+pub mark-same : (p q : ℕ → Bool) (marks : List ℕ) → ((atom : ℕ) → p atom ≡ q atom) → markWhere p marks ≡ markWhere q marks
+mark-same p q marks h = ap (λ (r : ℕ → Bool). markWhere r marks) (fun-ext h)
+
+-- One more atom.
+pub mark-one :
+    (earlier later : ℕ → Bool) (marks : List ℕ) (head : ℕ) → later head ≡ true → ((atom : ℕ) → (atom ≡ head → ⊥) → later atom ≡ earlier atom) →
+    set (markWhere earlier marks) head 1 ≡ markWhere later marks
+mark-one earlier later marks head now others =
+    ext-getD 0 _ _ (simp (length-set, mark-length))
+    (λ atom l. step atom (rw (length-set, mark-length) at l))
+  where
+    step : (atom : ℕ) → atom < length marks → getD (set (markWhere earlier marks) head 1) atom 0 ≡ getD (markWhere later marks) atom 0
+    step atom l =
+        ⊎-elim
+        (λ (t : eqb atom head ≡ true).
+        let within : head < length (markWhere earlier marks) = rw mark-length (omega (arith, eqb-true)) in
+        rw (mark-at later marks atom l, eqb-true atom head t, now, getD-set-same (markWhere earlier marks) head 1 0 within))
+        (λ (f : eqb atom head ≡ false).
+        getD-set-other (markWhere earlier marks) head atom 1 0 (eqb-false _ _ f) ∙ rw (mark-at earlier marks atom l, mark-at later marks atom l, others atom (eqb-false _ _ f)))
+        (decided (eqb atom head))
+
+-- The loop has passed n rows: an atom is marked if one of them passes the test with it, or if it was marked before.
+pub record Marked (p : ℕ → ℕ → Bool) (before : List ℕ) (n : ℕ) (marks : List ℕ) : Type 0 where
+  pub is : marks ≡ markWhere (λ atom. anyBelow n (λ row. p row atom)) before
+  pub long : length marks ≡ length before
+
+module _ (p : ℕ → ℕ → Bool) (before : List ℕ) where
+  pub marked-end : (n rows : ℕ) (marks : List ℕ) → n ≡ rows → Marked p before n marks → marks ≡ markWhere (λ atom. anyBelow rows (λ row. p row atom)) before
+  marked-end n rows marks e m = rw e at (m .is)
+
+  pub marked-start : Marked p before 0 before
+  unfolding anyBelow
+  marked-start = record { is = sym (mark-none before); long = refl }
+
+  -- A row that passes with its head alone,
+  pub marked-put :
+      (n head : ℕ) (marks : List ℕ) → p n head ≡ true → ((atom : ℕ) → (head ≡ atom → ⊥) → p n atom ≡ false) → Marked p before n marks →
+      Marked p before (n + 1) (set marks head 1)
+  unfolding anyBelow
+  marked-put n head marks now others m =
+      record {
+        is = rw (m .is, add-one) (mark-one _ _ before head (or-right (anyBelow n _) _ now) (λ atom ne. or-none _ _ (others atom (λ e. ne (sym e)))));
+        long = rw length-set (m .long);
+      }
+
+  -- and one that passes with none.
+  pub marked-pass : (n : ℕ) (marks : List ℕ) → ((atom : ℕ) → p n atom ≡ false) → Marked p before n marks → Marked p before (n + 1) marks
+  unfolding anyBelow
+  marked-pass n marks none m =
+      record { is = rw (m .is, add-one) (mark-same _ _ before (λ atom. sym (or-none _ _ (none atom)))); long = m .long }
+
+-- A row that puts its head if it passes.
+module _ (heads : ℕ → ℕ) (passes : ℕ → Bool) (before : List ℕ) (n : ℕ) (marks : List ℕ) where
+  pub row-puts :
+      (head : ℕ) → head ≡ heads n → passes n ≡ true → Marked (λ row atom. eqb (heads row) atom && passes row) before n marks →
+      Marked (λ row atom. eqb (heads row) atom && passes row) before (n + 1) (set marks head 1)
+  row-puts head e h m =
+      marked-put _ before n head marks (both _ _ (eq-eqb _ _ (sym e)) h) (λ atom other. and-left _ _ (ne-eqb _ _ (λ same. other (e ∙ same)))) m
+
+  pub row-passes :
+      passes n ≡ false → Marked (λ row atom. eqb (heads row) atom && passes row) before n marks →
+      Marked (λ row atom. eqb (heads row) atom && passes row) before (n + 1) marks
+  row-passes h m = marked-pass _ before n marks (λ atom. and-right (eqb (heads n) atom) _ h) m
+
+-- A loop that counts the marked atoms has come to n.
+module _ (marks : List ℕ) (n marked : ℕ) (so : marked ≡ count n (isMarked marks)) where
+  pub count-up : getD marks n 0 ≡ 1 → marked + 1 ≡ count (n + 1) (isMarked marks)
+  unfolding count isMarked
+  count-up here = rw (add-one n, here) (omega arith)
+
+  pub count-stay : (getD marks n 0 ≡ 1 → ⊥) → marked ≡ count (n + 1) (isMarked marks)
+  unfolding count isMarked
+  count-stay here = rw (add-one n, ne-eqb _ _ here) (omega arith)
+
+-- The code's test of a value.
+pub true-at : (values : List ℕ) (atom : ℕ) → atom < length values → isTrue (valueAt values atom) ≡ eqb (getD values atom 0) 1
+unfolding valueAt
+true-at values atom l = rw (true-test, getD-default values atom 2 0 l)

@@ -1,0 +1,89 @@
+-- Tests of rows and entries as the code makes them.
+-- Assumes nothing.
+use Prim.Native.Nat.{ℕ, suc, _*_, _/_, _^_, _≤_, _<_}
+use mathlib.Core.Path.{_≡_, refl, sym, _∙_}
+use mathlib.Core.Bool.{Bool, true, false, not, _&&_, _||_, or-false, and-false, and-true, false≢true}
+use native.Mathlib.Omega.{arith}
+use lib.Dec.{T, leb, ltb, eqb, leb·zero, leb·suc-zero, leb·suc-suc}
+use lib.IntN.{ℤ, pos, negsuc, natAbs}
+use lib.Signed.{mag, ltZ, leZ, nonNeg}
+use mir.Syntax.{Width, w32, w64}
+use mir.Val.{Fits, hbits, toZ, ofZ}
+use mir.Facts.{toZ-ofZ}
+use borrow.Author.Tests.{not-false, leb-true, leb-false, eqb-true, le-leb, lt-leb}
+use Rattle.wellfounded.specs.Literals.{atomOf}
+use Rattle.tables.specs.Loads.{indexOf}
+use Rattle.tables.specs.Sound.{sizesFit}
+
+-- ── Tests as the code makes them ──
+same-test : (a b c d : ℕ) → (a ≤ b → c ≤ d) → (b < a → d < c) → leb a b ≡ leb c d
+same-test a b c d passes fails = by (leb a b) refl
+  where
+    by : (t : Bool) → leb a b ≡ t → leb a b ≡ leb c d
+    by true e = e ∙ sym (le-leb c d (passes (leb-true a b e)))
+    by false e = e ∙ sym (lt-leb c d (fails (leb-false a b e)))
+
+-- A literal of 2N or above is one whose atom is N or above.
+pub literal-beyond : (atoms literal : ℕ) → leb atoms (atomOf literal) ≡ leb (2 * atoms) literal
+unfolding atomOf
+literal-beyond atoms literal = same-test atoms (literal / 2) (2 * atoms) literal (λ h. omega arith) (λ h. omega arith)
+
+-- A signed number that is read from memory is what lies there.
+pub read-back : (w : Width) (z : ℤ) → mag z < 2 ^ hbits w → toZ w (ofZ w z) ≡ z
+read-back w z h = toZ-ofZ (record { sfits = h })
+
+-- A magnitude above a limit, or within it, by two comparisons of the signed number.
+pub beyond : (w : Width) (m : ℕ) (z : ℤ) → mag z < 2 ^ hbits w → (ltZ (toZ w (ofZ w z)) (negsuc m) || ltZ (pos (suc m)) (toZ w (ofZ w z))) ≡ ltb (suc m) (natAbs z)
+beyond w m z h = rw (read-back w z h) (by z)
+  where
+    by : (y : ℤ) → (ltZ y (negsuc m) || ltZ (pos (suc m)) y) ≡ ltb (suc m) (natAbs y)
+    by (pos n) = refl
+    by (negsuc n) = or-false _ ∙ sym (leb·suc-suc (suc m) n)
+
+pub within : (w : Width) (m : ℕ) (z : ℤ) → mag z < 2 ^ hbits w → (leZ (negsuc m) (toZ w (ofZ w z)) && leZ (toZ w (ofZ w z)) (pos (suc m))) ≡ leb (natAbs z) (suc m)
+within w m z h = rw (read-back w z h) (by z)
+  where
+    by : (y : ℤ) → (leZ (negsuc m) y && leZ y (pos (suc m))) ≡ leb (natAbs y) (suc m)
+    by (pos n) = refl
+    by (negsuc n) = and-true _ ∙ sym (leb·suc-suc n m)
+
+-- An entry of a load table that is to be an index.
+pub not-negative : (z : ℤ) → mag z < 2 ^ 31 → leZ (pos 0) (toZ w32 (ofZ w32 z)) ≡ nonNeg z
+not-negative z h = rw (read-back w32 z h) (by z)
+  where
+    by : (y : ℤ) → leZ (pos 0) y ≡ nonNeg y
+    by (pos n) = leb·zero n
+    by (negsuc n) = refl
+
+pub index-none : (z : ℤ) → mag z < 2 ^ 31 → ltZ (toZ w32 (ofZ w32 z)) (pos 0) ≡ true → 0 ≡ indexOf z
+unfolding indexOf
+index-none z h below = by z (rw (read-back w32 z h) at below)
+  where
+    by : (y : ℤ) → ltZ y (pos 0) ≡ true → 0 ≡ indexOf y
+    by (pos n) t = absurd (false≢true (sym (leb·suc-zero n) ∙ t))
+    by (negsuc n) t = refl
+
+pub record IsIndex (z read : ℤ) : Type 0 where
+  pub casts : T (nonNeg read) × Fits w64 (natAbs read)
+  pub is : natAbs read ≡ indexOf z
+  pub small : natAbs read < 2147483648
+
+pub index-some : (z : ℤ) → mag z < 2 ^ 31 → ltZ (toZ w32 (ofZ w32 z)) (pos 0) ≡ false → IsIndex z (toZ w32 (ofZ w32 z))
+unfolding indexOf
+index-some z h above = let e = read-back w32 z h in rw e (by z h (rw e at above))
+  where
+    by : (y : ℤ) → mag y < 2 ^ 31 → ltZ y (pos 0) ≡ false → IsIndex y y
+    by (pos n) l t = record { casts = (tt, omega arith); is = refl; small = l }
+    by (negsuc n) l t = absurd (false≢true (sym t))
+
+-- Tables of fitting sizes have as many minutes as load literals.
+pub sizes-paired :
+    (atoms rules literals clauses loads loadLiterals minutes : ℕ) (fit : Bool) → fit ≡ sizesFit atoms rules literals clauses loads loadLiterals minutes →
+    not fit ≡ false → minutes ≡ loadLiterals
+unfolding sizesFit
+sizes-paired atoms rules literals clauses loads loadLiterals minutes fit is passed =
+    eqb-true minutes loadLiterals (by (eqb minutes loadLiterals) refl (not-false fit passed))
+  where
+    by : (b : Bool) → eqb minutes loadLiterals ≡ b → fit ≡ true → eqb minutes loadLiterals ≡ true
+    by true e fits = e
+    by false e fits = absurd (false≢true (sym (rw (e, and-false) at is) ∙ fits))

@@ -1,0 +1,8 @@
+-- The tables of a book, in the order in which they are best read.
+pub mod Limits
+pub mod Faults
+pub mod Rows
+pub mod Loads
+pub mod Sound
+pub mod Satisfied
+pub mod Marks

@@ -1,0 +1,109 @@
+-- The lent tables, their faults 11 to 16 in order, and the fault 17 of the slices lent with them.
+use Prim.Native.Nat.{ℕ, _+_, _*_, _%_, _≤_}
+use mathlib.Core.Path.{_≡_}
+use mathlib.Core.Bool.{Bool, not, _&&_, _||_}
+use mathlib.Core.List.{List, [], _∷_, List·Memᴰ}
+use lib.Dec.{leb, ltb, eqb}
+use lib.IntN.{ℤ, pos, natAbs}
+use lib.Signed.{nonNeg, _≤ℤ_}
+use lib.ListN.{length, getD}
+use Rattle.wellfounded.specs.Lists.{all}
+use Rattle.wellfounded.specs.Definitions.{Definition}
+use Rattle.tables.specs.declared.Fault.the-variants.{TableSizes, RuleRow, ClauseRow, LoadRow, Literal, LoadTerm, SliceLength}
+use Rattle.tables.specs.Limits.{maxAtoms, maxRuleRows, maxClauseRows, maxLiterals, maxLoadRows, maxTerms, maxMinutes, maxBound}
+use Rattle.tables.specs.Faults.{Test, Absent}
+use Rattle.tables.specs.Rows.{ruleWidth, ruleCount, ruleHead, ruleStart, ruleSize, definitionOf, clauseWidth, clauseCount, clauseStart, clauseSize}
+use Rattle.tables.specs.Loads.{loadWidth, loadCount, loadEntry, loadLow, loadHigh, loadStart, loadSize}
+
+-- All that is lent for a book: N and six tables.
+pub record Tables : Type 0 where
+  pub atoms : ℕ
+  pub rules : List ℕ
+  pub literals : List ℕ
+  pub clauses : List ℕ
+  pub loads : List ℤ
+  pub loadLiterals : List ℕ
+  pub minutes : List ℤ
+
+unfoldable pub lent : ℕ → List ℕ → List ℕ → List ℕ → List ℤ → List ℕ → List ℤ → Tables
+lent atoms rules literals clauses loads loadLiterals minutes =
+    record { atoms = atoms; rules = rules; literals = literals; clauses = clauses; loads = loads; loadLiterals = loadLiterals; minutes = minutes }
+
+-- The definition that a book's rules make.
+unfoldable pub bookOf : Tables → Definition
+bookOf t = definitionOf (t .atoms) (t .rules) (t .literals)
+
+-- 11: N and every table are within their limits, tables of rows have whole rows, and there are as many minutes as load literals.
+-- The arguments are N and the tables' lengths.
+unfoldable pub sizesFit : ℕ → ℕ → ℕ → ℕ → ℕ → ℕ → ℕ → Bool
+sizesFit atoms rules literals clauses loads loadLiterals minutes =
+    leb atoms maxAtoms && leb rules (maxRuleRows * ruleWidth) && eqb (rules % ruleWidth) 0 && leb literals maxLiterals
+    && leb clauses (maxClauseRows * clauseWidth) && eqb (clauses % clauseWidth) 0 && leb loads (maxLoadRows * loadWidth)
+    && eqb (loads % loadWidth) 0 && leb loadLiterals maxTerms && eqb minutes loadLiterals
+
+-- 12: a rule row past the end of the literal table, or a head of N or above.
+unfoldable pub badRuleRow : ℕ → List ℕ → ℕ → ℕ → Bool
+badRuleRow atoms rules literals row = ltb literals (ruleStart rules row + ruleSize rules row) || leb atoms (ruleHead rules row)
+
+-- 13: a clause row past the end of the literal table.
+unfoldable pub badClauseRow : List ℕ → ℕ → ℕ → Bool
+badClauseRow clauses literals row = ltb literals (clauseStart clauses row + clauseSize clauses row)
+
+-- 14: a load row past the end of the load literals, a negative start or count, or bounds out of range.
+unfoldable pub goodLoadRow : List ℤ → ℕ → ℕ → Bool
+goodLoadRow loads terms row =
+    nonNeg (loadEntry loads row 2) && nonNeg (loadEntry loads row 3) && leb (loadStart loads row + loadSize loads row) terms
+    && leb (natAbs (loadLow loads row)) maxBound && leb (natAbs (loadHigh loads row)) maxBound
+
+-- 15: a literal of 2N or above, in use or not.
+unfoldable pub badLiteral : ℕ → List ℕ → ℕ → Bool
+badLiteral atoms literals place = leb (2 * atoms) (getD literals place 0)
+
+-- 16: a load literal of 2N or above, or minutes out of range, in use or not.
+unfoldable pub badTerm : ℕ → List ℕ → List ℤ → ℕ → Bool
+badTerm atoms loadLiterals minutes place = badLiteral atoms loadLiterals place || ltb maxMinutes (natAbs (getD minutes place (pos 0)))
+
+-- The faults of the tables, in the order in which they are looked for.
+unfoldable pub tableTests : Tables → List Test
+tableTests t =
+    record {
+      fault = TableSizes;
+      positions = 1;
+      bad = λ k. not (sizesFit (t .atoms) (length (t .rules)) (length (t .literals)) (length (t .clauses)) (length (t .loads)) (length (t .loadLiterals)) (length (t .minutes)));
+    }
+    ∷ record { fault = RuleRow; positions = ruleCount (t .rules); bad = badRuleRow (t .atoms) (t .rules) (length (t .literals)) }
+    ∷ record { fault = ClauseRow; positions = clauseCount (t .clauses); bad = badClauseRow (t .clauses) (length (t .literals)) }
+    ∷ record { fault = LoadRow; positions = loadCount (t .loads); bad = λ row. not (goodLoadRow (t .loads) (length (t .loadLiterals)) row) }
+    ∷ record { fault = Literal; positions = length (t .literals); bad = badLiteral (t .atoms) (t .literals) }
+    ∷ record { fault = LoadTerm; positions = length (t .loadLiterals); bad = badTerm (t .atoms) (t .loadLiterals) (t .minutes) }
+    ∷ []
+
+-- 17: another lent slice not N long, by the slices' lengths.
+unfoldable pub sliceTest : ℕ → List ℕ → Test
+sliceTest atoms lengths = record { fault = SliceLength; positions = 1; bad = λ k. not (all (λ n. eqb n atoms) lengths) }
+
+-- Tables are sound if neither they nor the slices lent with them, of these lengths, have a fault of 11 to 17.
+pub record Sound (t : Tables) (lengths : List ℕ) : Type 0 where
+  pub tables : (test : Test) → List·Memᴰ test (tableTests t) → Absent test
+  pub slices : Absent (sliceTest (t .atoms) lengths)
+
+-- What the sizes of sound tables are.
+pub record Sizes (t : Tables) : Type 0 where
+  pub fewAtoms : t .atoms ≤ maxAtoms
+  pub fewRules : length (t .rules) ≤ maxRuleRows * ruleWidth
+  pub wholeRules : length (t .rules) % ruleWidth ≡ 0
+  pub fewLiterals : length (t .literals) ≤ maxLiterals
+  pub fewClauses : length (t .clauses) ≤ maxClauseRows * clauseWidth
+  pub wholeClauses : length (t .clauses) % clauseWidth ≡ 0
+  pub fewLoads : length (t .loads) ≤ maxLoadRows * loadWidth
+  pub wholeLoads : length (t .loads) % loadWidth ≡ 0
+  pub fewTerms : length (t .loadLiterals) ≤ maxTerms
+  pub paired : length (t .minutes) ≡ length (t .loadLiterals)
+
+-- What a load row of sound tables is.
+pub record LoadRowFits (loads : List ℤ) (terms row : ℕ) : Type 0 where
+  pub start : pos 0 ≤ℤ loadEntry loads row 2
+  pub count : pos 0 ≤ℤ loadEntry loads row 3
+  pub within : loadStart loads row + loadSize loads row ≤ terms
+  pub low : natAbs (loadLow loads row) ≤ maxBound
+  pub high : natAbs (loadHigh loads row) ≤ maxBound

@@ -1,0 +1,92 @@
+// Sizes of the lent tables, and all faults of tables in their order.
+ghost use mathlib.Core.Path.{_≡_};
+ghost use Rattle.tables.specs.Faults.{firstFault};
+ghost use Rattle.tables.specs.Sound.{lent, sizesFit, tableTests};
+use super::Fault;
+use super::Found;
+use super::Verdict;
+use super::rows::CLAUSE_WIDTH;
+use super::rows::LOAD_WIDTH;
+use super::rows::RULE_WIDTH;
+use super::rows::bad_clause_row;
+use super::rows::bad_literal;
+use super::rows::bad_load_row;
+use super::rows::bad_rule_row;
+use super::rows::bad_term;
+
+const MAX_ATOMS: usize = 1024;
+
+const MAX_RULE_ENTRIES: usize = 6144;
+
+const MAX_CLAUSE_ENTRIES: usize = 4096;
+
+const MAX_LITERALS: usize = 16384;
+
+const MAX_LOAD_ENTRIES: usize = 256;
+
+const MAX_TERMS: usize = 4096;
+
+// The number of atoms and the tables' lengths are within their limits, with whole rows and as many minutes as load literals.
+fn sizes_fit(
+    atoms: usize,
+    rules: usize,
+    literals: usize,
+    clauses: usize,
+    loads: usize,
+    load_literals: usize,
+    minutes: usize,
+) -> bool
+    ensures { λ r. ⌜ r ≡ sizesFit atoms rules literals clauses loads «load_literals» minutes ⌝ }
+{
+    (atoms <= MAX_ATOMS)
+        & (rules <= MAX_RULE_ENTRIES)
+        & (rules % RULE_WIDTH == 0)
+        & (literals <= MAX_LITERALS)
+        & (clauses <= MAX_CLAUSE_ENTRIES)
+        & (clauses % CLAUSE_WIDTH == 0)
+        & (loads <= MAX_LOAD_ENTRIES)
+        & (loads % LOAD_WIDTH == 0)
+        & (load_literals <= MAX_TERMS)
+        & (minutes == load_literals)
+}
+
+// The first fault of the tables: their sizes, then rows, then single entries.
+pub fn table_fault(
+    atoms: usize,
+    rules: &[u16],
+    literals: &[u16],
+    clauses: &[u16],
+    loads: &[i32],
+    load_literals: &[u16],
+    minutes: &[i16],
+) -> Verdict
+    ensures { λ r. ⌜ r ≡ firstFault (tableTests (lent atoms (now (rules .entry)) (now (literals .entry)) (now (clauses .entry)) (now (loads .entry)) (now («load_literals» .entry)) (now (minutes .entry)))) ⌝ }
+{
+    if !sizes_fit(
+        atoms,
+        rules.len(),
+        literals.len(),
+        clauses.len(),
+        loads.len(),
+        load_literals.len(),
+        minutes.len(),
+    ) {
+        return Verdict::Refused(Fault::TableSizes, 0);
+    }
+    if let Found::At(row) = bad_rule_row(atoms, rules, literals.len()) {
+        return Verdict::Refused(Fault::RuleRow, row);
+    }
+    if let Found::At(row) = bad_clause_row(clauses, literals.len()) {
+        return Verdict::Refused(Fault::ClauseRow, row);
+    }
+    if let Found::At(row) = bad_load_row(loads, load_literals.len()) {
+        return Verdict::Refused(Fault::LoadRow, row);
+    }
+    if let Found::At(place) = bad_literal(atoms, literals) {
+        return Verdict::Refused(Fault::Literal, place);
+    }
+    if let Found::At(place) = bad_term(atoms, load_literals, minutes) {
+        return Verdict::Refused(Fault::LoadTerm, place);
+    }
+    Verdict::Accepted
+}
