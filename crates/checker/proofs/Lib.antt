@@ -4,3 +4,4 @@ pub mod Readings
 pub mod Claims
 pub mod LevelScans
 pub mod Supported
+pub mod MarkedRules

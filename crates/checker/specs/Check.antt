@@ -33,23 +33,27 @@ unblocked d rules literals values levels row =
     isFalse (valueAt values (ruleHead rules row))
     && not (any (blocks d values levels (ruleHead rules row)) (ruleBody rules literals row))
 
-unfoldable pub valueTest : Tables → List ℕ → Test
-valueTest t values = record { fault = Value; positions = t .atoms; bad = badValue values }
+unfoldable pub valueTest : ℕ → List ℕ → Test
+valueTest atoms values = record { fault = Value; positions = atoms; bad = badValue values }
 
-unfoldable pub levelTest : Tables → List ℕ → Test
-levelTest t levels = record { fault = Level; positions = t .atoms; bad = badLevel (bookOf t) levels }
+unfoldable pub levelTest : Definition → List ℕ → Test
+levelTest d levels = record { fault = Level; positions = d .size; bad = badLevel d levels }
 
-unfoldable pub supportTest : Tables → List ℕ → List ℕ → Test
-supportTest t values levels = record { fault = Unsupported; positions = t .atoms; bad = unsupported (bookOf t) values levels }
+unfoldable pub supportTest : Definition → List ℕ → List ℕ → Test
+supportTest d values levels = record { fault = Unsupported; positions = d .size; bad = unsupported d values levels }
 
-unfoldable pub blockingTest : Tables → List ℕ → List ℕ → Test
-blockingTest t values levels =
-    record { fault = Unblocked; positions = ruleCount (t .rules); bad = unblocked (bookOf t) (t .rules) (t .literals) values levels }
+unfoldable pub blockingTest : Definition → List ℕ → List ℕ → List ℕ → List ℕ → Test
+blockingTest d rules literals values levels =
+    record { fault = Unblocked; positions = ruleCount rules; bad = unblocked d rules literals values levels }
 
--- The faults of a claim, in the order in which they are looked for.
+-- The faults of levels and rules, and all faults of a claim, in the order in which they are looked for.
+unfoldable pub levelTests : Definition → List ℕ → List ℕ → List ℕ → List ℕ → List Test
+levelTests d rules literals values levels =
+    levelTest d levels ∷ supportTest d values levels ∷ blockingTest d rules literals values levels ∷ []
+
 unfoldable pub claimTests : Tables → List ℕ → List ℕ → List Test
 claimTests t values levels =
-    valueTest t values ∷ levelTest t levels ∷ supportTest t values levels ∷ blockingTest t values levels ∷ satisfactionTests t values
+    valueTest (t .atoms) values ∷ (levelTests (bookOf t) (t .rules) (t .literals) values levels ++ satisfactionTests t values)
 
 -- The faults of a call of the check: those of the tables, of the slices lent with them, and of the claim.
 unfoldable pub checkTests : Tables → List ℕ → List ℕ → List Test

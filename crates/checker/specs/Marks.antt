@@ -10,6 +10,8 @@ use Rattle.wellfounded.specs.Literals.{isTrue, valueAt}
 use Rattle.wellfounded.specs.Definitions.{Definition, isDefined}
 use Rattle.wellfounded.specs.Levels.{supports}
 use Rattle.tables.specs.Rows.{ruleHead, ruleBody}
+use Rattle.tables.specs.Limits.{maxAtoms}
+use Rattle.tables.specs.Satisfied.{RulesScannable}
 use Rattle.tables.specs.Marks.{isMarked}
 
 -- What the scans of a claim read: marks that tell the defined atoms, and a value and a level for each atom.
@@ -32,3 +34,9 @@ supportedBy d rules literals values levels n atom =
     (λ row.
     eqb (ruleHead rules row) atom
     && (isTrue (valueAt values (ruleHead rules row)) && all (supports d values levels (ruleHead rules row)) (ruleBody rules literals row)))
+
+-- What the faults of levels and rules may rely on where the tables and the slices have none.
+pub record Levelled (rules literals values levels : List ℕ) : Type 0 where
+  pub few : length values ≤ maxAtoms
+  pub long : length levels ≡ length values
+  pub rows : RulesScannable rules literals (length values)

@@ -1,4 +1,146 @@
 // The check of a claim on lent tables.
+ghost use mathlib.Core.Path.{_≡_};
+ghost use mathlib.Core.List.{[], _∷_};
+ghost use Prim.Native.Nat.{_≤_};
+ghost use lib.ListN.{length};
+ghost use Rattle.tables.specs.Faults.{firstFault};
+ghost use Rattle.tables.specs.Rows.{definitionOf};
+ghost use Rattle.tables.specs.Sound.{lent};
+ghost use Rattle.tables.specs.Satisfied.{RulesScannable, ClausesScannable, LoadsScannable};
+ghost use Rattle.checker.specs.Check.{supportTest, blockingTest, levelTests, claimTests, checkOf};
+ghost use Rattle.checker.specs.Marks.{Readable, Levelled};
+
 pub mod blocking;
 pub mod levels;
 pub mod support;
+
+use blocking::unblocked_row;
+use levels::bad_level;
+use levels::bad_value;
+use support::mark_supported;
+use support::unsupported_atom;
+use tables::Fault;
+use tables::Found;
+use tables::Verdict;
+use tables::marks::count_marked;
+use tables::marks::mark_heads;
+use tables::satisfaction::satisfaction_fault;
+use tables::sizes::table_fault;
+
+// The first fault of the rules: a true atom without its rule, or else a false atom's rule without a blocking literal.
+fn rule_fault(
+    rules: &[u16],
+    literals: &[u16],
+    defined: &[u8],
+    values: &[u8],
+    levels: &[u16],
+) -> Verdict
+    requires { ⌜ RulesScannable (now rules) (now literals) (length (now values)) ⌝ }
+    requires { ⌜ Readable (definitionOf (length (now values)) (now rules) (now literals)) (now defined) (now values) (now levels) ⌝ }
+    requires { ⌜ length (now values) ≤ 1024 ⌝ }
+    ensures { λ r. ⌜ r ≡ firstFault
+        (supportTest (definitionOf (length (now (values .entry))) (now (rules .entry)) (now (literals .entry))) (now (values .entry)) (now (levels .entry))
+        ∷ blockingTest (definitionOf (length (now (values .entry))) (now (rules .entry)) (now (literals .entry)))
+        (now (rules .entry)) (now (literals .entry)) (now (values .entry)) (now (levels .entry)) ∷ []) ⌝ }
+{
+    let mut supported = [0u8; 1024];
+    mark_supported(rules, literals, defined, values, levels, &mut supported);
+    if let Found::At(atom) = unsupported_atom(defined, values, &supported) {
+        return Verdict::Refused(Fault::Unsupported, atom);
+    }
+    if let Found::At(row) = unblocked_row(rules, literals, defined, values, levels) {
+        return Verdict::Refused(Fault::Unblocked, row);
+    }
+    Verdict::Accepted
+}
+
+// The first fault of levels and rules, on tables that have none.
+fn level_fault(rules: &[u16], literals: &[u16], values: &[u8], levels: &[u16]) -> Verdict
+    requires { ⌜ Levelled (now rules) (now literals) (now values) (now levels) ⌝ }
+    ensures { λ r. ⌜ r ≡ firstFault (levelTests (definitionOf (length (now (values .entry))) (now (rules .entry)) (now (literals .entry)))
+        (now (rules .entry)) (now (literals .entry)) (now (values .entry)) (now (levels .entry))) ⌝ }
+{
+    let mut defined = [0u8; 1024];
+    mark_heads(rules, &mut defined);
+    let most = count_marked(&defined, values.len());
+    if let Found::At(atom) = bad_level(&defined, most, values, levels) {
+        return Verdict::Refused(Fault::Level, atom);
+    }
+    rule_fault(rules, literals, &defined, values, levels)
+}
+
+// The first fault of the claim, on tables that have none.
+fn claim_fault(
+    rules: &[u16],
+    literals: &[u16],
+    clauses: &[u16],
+    loads: &[i32],
+    load_literals: &[u16],
+    minutes: &[i16],
+    values: &[u8],
+    levels: &[u16],
+) -> Verdict
+    requires { ⌜ Levelled (now rules) (now literals) (now values) (now levels) ⌝ }
+    requires { ⌜ ClausesScannable (now clauses) (now literals) (length (now values)) ⌝ }
+    requires { ⌜ LoadsScannable (now loads) (now «load_literals») (now minutes) (length (now values)) ⌝ }
+    ensures { λ r. ⌜ r ≡ firstFault (claimTests
+        (lent (length (now (values .entry))) (now (rules .entry)) (now (literals .entry)) (now (clauses .entry)) (now (loads .entry))
+        (now («load_literals» .entry)) (now (minutes .entry)))
+        (now (values .entry)) (now (levels .entry))) ⌝ }
+{
+    if let Found::At(atom) = bad_value(values) {
+        return Verdict::Refused(Fault::Value, atom);
+    }
+    let verdict = level_fault(rules, literals, values, levels);
+    if let Verdict::Refused(_, _) = verdict {
+        return verdict;
+    }
+    satisfaction_fault(clauses, literals, loads, load_literals, minutes, values)
+}
+
+// Checks a claim: accepted, or refused for its first fault at its lowest position. Writes nothing.
+pub fn check(
+    atoms: usize,
+    rules: &[u16],
+    literals: &[u16],
+    clauses: &[u16],
+    loads: &[i32],
+    load_literals: &[u16],
+    minutes: &[i16],
+    values: &[u8],
+    levels: &[u16],
+) -> Verdict
+    ensures { λ r. ⌜ r ≡ checkOf
+        (lent atoms (now (rules .entry)) (now (literals .entry)) (now (clauses .entry)) (now (loads .entry)) (now («load_literals» .entry))
+        (now (minutes .entry)))
+        (now (values .entry)) (now (levels .entry)) ⌝ }
+{
+    let verdict = table_fault(
+        atoms,
+        rules,
+        literals,
+        clauses,
+        loads,
+        load_literals,
+        minutes,
+    );
+    if let Verdict::Refused(_, _) = verdict {
+        return verdict;
+    }
+    if values.len() != atoms {
+        return Verdict::Refused(Fault::SliceLength, 0);
+    }
+    if levels.len() != atoms {
+        return Verdict::Refused(Fault::SliceLength, 0);
+    }
+    claim_fault(
+        rules,
+        literals,
+        clauses,
+        loads,
+        load_literals,
+        minutes,
+        values,
+        levels,
+    )
+}

@@ -11,6 +11,7 @@ use native.Mathlib.Omega.{arith}
 use Rattle.tables.specs.declared.Found.{Found}
 use Rattle.tables.specs.declared.Found.the-variants.{At, Nothing}
 use Rattle.tables.specs.declared.Fault.{Fault}
+use Rattle.tables.specs.declared.Verdict.{Verdict}
 use Rattle.tables.specs.declared.Verdict.the-variants.{Accepted, Refused}
 use Rattle.tables.specs.Faults.{orAt, lowest, Test, refusedOr, firstFault, Absent, RefusedBy}
 
@@ -77,6 +78,12 @@ module _ (bad : ℕ → Bool) where
 
   pub lowest-found : (n p : ℕ) → p < n → bad p ≡ true → ((k : ℕ) → k < p → bad k ≡ false) → lowest n bad ≡ At p
   lowest-found n p l fails good = lowest-stop p n (lowest-nothing p good) fails l
+
+-- Tests that agree below n find the same.
+pub lowest-same : (p q : ℕ → Bool) (n : ℕ) → ((k : ℕ) → k < n → p k ≡ q k) → lowest n p ≡ lowest n q
+unfolding lowest
+lowest-same p q zero alike = refl
+lowest-same p q (suc n) alike = rw (lowest-same p q n (λ k l. alike k (omega arith)), alike n (omega arith))
 
 -- A search that has come to i: no lower place fails.
 pub record Searched (bad : ℕ → Bool) (places i : ℕ) : Type 0 where
@@ -232,3 +239,12 @@ by-refused ts f p r =
     ap firstFault (r .place) ∙ first-append (r .earlier) (r .test ∷ r .later) (absent-accepted (r .earlier) (r .noneEarlier))
     ∙ first-fails (r .test) (r .later) p (lowest-found (r .test .bad) (r .test .positions) p (r .within) (r .fails) (r .noLower))
     ∙ ap (λ (g : Fault). Refused g p) (r .isFault)
+
+-- Where the verdict is left to a list of tests and those after it: what is found for the list decides it, and "accepted" leaves it to those after.
+pub verdict-refuses :
+    (ts xs ys : List Test) (v : Verdict) (f : Fault) (p : ℕ) → firstFault ts ≡ firstFault (xs ++ ys) → v ≡ firstFault xs → v ≡ Refused f p → v ≡ firstFault ts
+verdict-refuses ts xs ys v f p left is refused = refused ∙ sym (left ∙ first-append-refused xs ys f p (sym is ∙ refused))
+
+pub verdict-leaves :
+    (ts xs ys : List Test) (v : Verdict) → firstFault ts ≡ firstFault (xs ++ ys) → v ≡ firstFault xs → v ≡ Accepted → firstFault ts ≡ firstFault ys
+verdict-leaves ts xs ys v left is accepted = left ∙ first-append xs ys (sym is ∙ accepted)

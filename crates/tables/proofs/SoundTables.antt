@@ -1,10 +1,10 @@
 -- What each fault of the tables says, and what the scans may rely on where none occurs.
 -- Assumes nothing.
 use Prim.Native.Nat.{ℕ, _+_, _*_, _%_, _≤_, _<_, zero-le}
-use mathlib.Core.Path.{_≡_, refl, ap}
+use mathlib.Core.Path.{_≡_, refl, sym, ap, subst}
 use mathlib.Core.Logic.{_↔_, _⊎_, inl, inr, ⊎-elim}
 use mathlib.Core.Bool.{Bool, true, false, not, _&&_, false≢true}
-use mathlib.Core.List.{List, List·Memᴰ, List·Memᴰ·head, List·Memᴰ·tail}
+use mathlib.Core.List.{List, [], _∷_, List·Memᴰ, List·Memᴰ·head, List·Memᴰ·tail, List·Memᴰ·not-nil, List·Memᴰ·cases-cons}
 use native.Mathlib.Omega.{arith}
 use lib.Dec.{leb, ltb, eqb, le→leb}
 use lib.IntN.{ℤ, pos, negsuc, natAbs}
@@ -13,14 +13,17 @@ use lib.ListN.{length, getD}
 use borrow.Author.Tests.{leb-true, leb-false, le-leb, ltb-true, ltb-false, lt-ltb, eqb-true, eq-eqb, not-false}
 use Rattle.wellfounded.specs.Lists.{all}
 use Rattle.wellfounded.specs.Literals.{atomOf}
-use Rattle.wellfounded.proofs.Tests.{both, first, second, either, or-left, or-right, neither}
+use Rattle.wellfounded.proofs.Tests.{not-both, both, first, second, either, or-left, or-right, neither}
 use Rattle.wellfounded.proofs.Lists.{all-use, all-make}
 use Rattle.tables.specs.Limits.{maxAtoms, maxRuleRows, maxClauseRows, maxLiterals, maxLoadRows, maxTerms, maxMinutes}
-use Rattle.tables.specs.Faults.{Test, Absent}
+use Rattle.tables.specs.declared.Fault.the-variants.{SliceLength}
+use Rattle.tables.specs.declared.Verdict.the-variants.{Refused}
+use Rattle.tables.specs.Faults.{Test, Absent, firstFault}
 use Rattle.tables.specs.Rows.{ruleWidth, clauseWidth, ruleCount, ruleHead, ruleStart, ruleSize, clauseStart, clauseSize}
 use Rattle.tables.specs.Loads.{loadWidth, loadEntry}
 use Rattle.tables.specs.Sound.{Tables, sizesFit, badRuleRow, badClauseRow, goodLoadRow, badLiteral, badTerm, tableTests, sliceTest, Sizes, LoadRowFits}
 use Rattle.tables.specs.Satisfied.{RulesScannable, ClausesScannable, LoadsScannable}
+use Rattle.tables.proofs.Faults.{absent-nothing, first-passes, first-fails, once-fails}
 
 -- ── Each fault in words ──
 
@@ -194,3 +197,25 @@ pub slices-absent : (atoms : ℕ) (lengths : List ℕ) → ((n : ℕ) → List·
 unfolding sliceTest
 slices-absent atoms lengths same =
     record { nowhere = λ k l. ap not (all-make (λ (k : ℕ). eqb k atoms) lengths (λ n m. eq-eqb _ _ (same n m))) }
+
+-- A slice of another length is the fault at 0; slices that are all N long leave the verdict to the tests after it.
+pub slice-refuses :
+    (atoms : ℕ) (lengths : List ℕ) (later : List Test) (n : ℕ) → List·Memᴰ n lengths → (n ≡ atoms → ⊥) →
+    firstFault (sliceTest atoms lengths ∷ later) ≡ Refused SliceLength 0
+unfolding sliceTest
+slice-refuses atoms lengths later n m other =
+    first-fails _ later 0
+    (once-fails _ (ap not (not-both _ (λ h. other (eqb-true _ _ (all-use (λ (k : ℕ). eqb k atoms) lengths h m))))))
+
+pub slice-leaves :
+    (atoms : ℕ) (lengths : List ℕ) (later : List Test) → ((n : ℕ) → List·Memᴰ n lengths → n ≡ atoms) →
+    firstFault (sliceTest atoms lengths ∷ later) ≡ firstFault later
+slice-leaves atoms lengths later same = first-passes _ later (absent-nothing _ (slices-absent atoms lengths same))
+
+-- The members of a list of lengths, one by one.
+pub length-none : (P : ℕ → Type 0) (n : ℕ) → List·Memᴰ n [] → P n
+length-none P n m = absurd (List·Memᴰ·not-nil m)
+
+pub length-more : (P : ℕ → Type 0) {k : ℕ} {ks : List ℕ} → P k → ((n : ℕ) → List·Memᴰ n ks → P n) → (n : ℕ) → List·Memᴰ n (k ∷ ks) → P n
+length-more P {k} {ks} here there n m =
+    ⊎-elim (λ (e : n ≡ k). subst P (sym e) here) (λ (t : List·Memᴰ n ks). there n t) (List·Memᴰ·cases-cons m)

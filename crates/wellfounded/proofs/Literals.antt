@@ -6,9 +6,9 @@ use mathlib.Core.Logic.{_⊎_, inl, inr, ⊎-elim}
 use mathlib.Core.Bool.{Bool, true, false, cond, false≢true}
 use mathlib.Core.List.{List}
 use native.Mathlib.Omega.{arith}
-use lib.Dec.{eqb}
+use lib.Dec.{eqb, ltb}
 use lib.ListN.{length, getD, List·getD-eq-default}
-use borrow.Author.Tests.{eqb-true, eqb-false, eq-eqb, ne-eqb}
+use borrow.Author.Tests.{eqb-true, eqb-false, eq-eqb, ne-eqb, le-ltb}
 use Rattle.wellfounded.specs.Literals.{isFalse, isTrue, isHeld, valueAt, atomOf, isPositive, isNegated, literalTrue, literalFalse}
 use Rattle.wellfounded.proofs.Lists.{le-or-lt, getD-default}
 
@@ -34,6 +34,12 @@ unfolding isTrue
 true-test zero = refl
 true-test (suc zero) = refl
 true-test (suc (suc v)) = sym (ne-eqb (suc (suc v)) 1 (λ e. omega arith))
+
+pub held-test : (v : ℕ) → isHeld v ≡ ltb v 2
+unfolding isHeld
+held-test zero = refl
+held-test (suc zero) = refl
+held-test (suc (suc v)) = sym (le-ltb (suc (suc v)) 2 (omega arith))
 
 pub held-value : (v : ℕ) → isHeld v ≡ true → (isTrue v ≡ true) ⊎ (isFalse v ≡ true)
 unfolding isHeld isTrue isFalse
@@ -68,6 +74,14 @@ held-below s a h =
 pub value-beyond : (s : List ℕ) (a : ℕ) → length s ≤ a → valueAt s a ≡ 2
 unfolding valueAt
 value-beyond s a h = List·getD-eq-default s 2 h
+
+-- Within a state the code reads the same value.
+pub value-at : (state : List ℕ) (atom : ℕ) → atom < length state → valueAt state atom ≡ getD state atom 0
+unfolding valueAt
+value-at state atom l = getD-default state atom 2 0 l
+
+pub held-at : (state : List ℕ) (atom : ℕ) → atom < length state → isHeld (valueAt state atom) ≡ ltb (getD state atom 0) 2
+held-at state atom l = rw (held-test, value-at state atom l)
 
 -- A literal's tests as the code makes them, which reads a value within the state.
 module _ (s : List ℕ) (l : ℕ) (within : atomOf l < length s) where

@@ -1,0 +1,73 @@
+-- `checker::claim_fault` meets its contract: what finds no fault leaves the verdict to the tests after it.
+-- Assumes nothing.
+use mathlib.Core.Path.{_≡_, refl, sym, _∙_}
+use mathlib.Core.List.{_++_}
+use lib.ListN.{length}
+use borrow.Author.Needs.{needs}
+use Rattle.tables.specs.Faults.{firstFault}
+use Rattle.tables.specs.Sound.{lent, bookOf}
+use Rattle.tables.specs.Satisfied.{satisfactionTests}
+use Rattle.tables.proofs.Faults.{found-refuses, nothing-leaves, verdict-refuses, verdict-leaves}
+use Rattle.checker.specs.Check.{valueTest, levelTests, claimTests}
+use Rattle.checker.proofs.claim_fault.Statement.{statement}
+use Rattle.checker.proofs.claim_fault.Tie as tie
+
+values-fit :
+    (c : tie.After-enum-told) →
+    let a = c .before .before .before .before .before .before .before .before .before .args in
+    let t = lent (length (a .values .now)) (a .rules .now) (a .literals .now) (a .clauses .now) (a .loads .now) (a .load-literals .now) (a .minutes .now) in
+    firstFault (claimTests t (a .values .now) (a .levels .now))
+    ≡ firstFault (levelTests (bookOf t) (a .rules .now) (a .literals .now) (a .values .now) (a .levels .now) ++ satisfactionTests t (a .values .now))
+unfolding claimTests valueTest lent
+values-fit c = nothing-leaves _ _ _ _ refl (c .before .before .bad-value .ensures) (c .enum-told .given .1)
+
+bad-value-requires : tie.Need-bad-value-requires
+bad-value-requires c κs = search needs
+
+enum-known-atom : tie.Need-enum-known-atom
+enum-known-atom c = search needs
+
+returns : tie.Need-returns
+unfolding claimTests valueTest lent
+returns c = found-refuses _ _ _ _ _ refl (c .before .before .before .bad-value .ensures) (c .before .atom .given .1)
+
+enum-told : tie.Need-enum-told
+enum-told c = search needs
+
+level-fault-requires : tie.Need-level-fault-requires
+level-fault-requires c κs = search needs
+
+enum-told-2 : tie.Need-enum-told-2
+enum-told-2 c = search needs
+
+returns-2 : tie.Need-returns-2
+unfolding lent bookOf
+returns-2 c =
+    verdict-refuses _ _ _ _ _ _ (values-fit (c .before .before .before)) (c .before .before .level-fault .ensures) (c .enum-told2 .given .1)
+
+enum-told-3 : tie.Need-enum-told-3
+enum-told-3 c = search needs
+
+satisfaction-fault-requires : tie.Need-satisfaction-fault-requires
+satisfaction-fault-requires c κs = search needs
+
+returns-3 : tie.Need-returns-3
+unfolding lent bookOf satisfactionTests
+returns-3 c =
+    c .satisfaction-fault .ensures
+    ∙ sym (verdict-leaves _ _ _ _ (values-fit (c .before .before .before .before)) (c .before .before .before .level-fault .ensures) (c .before .enum-told3 .given .1))
+
+pub claim-fault-spec : {M : Type 1} → statement M
+claim-fault-spec =
+    tie.close
+    (tie.spec
+    bad-value-requires
+    enum-known-atom
+    returns
+    enum-told
+    level-fault-requires
+    enum-told-2
+    returns-2
+    enum-told-3
+    satisfaction-fault-requires
+    returns-3)

@@ -1,0 +1,93 @@
+-- `checker::level_fault` meets its contract: the marks of the heads tell who is defined, and a search that finds nothing leaves
+-- the verdict to the tests after it.
+-- Assumes nothing.
+use mathlib.Core.Path.{_≡_, refl, sym, _∙_}
+use mathlib.Core.List.{[], _∷_}
+use native.Mathlib.Omega.{arith}
+use lib.ListN.{length}
+use borrow.Author.Needs.{needs}
+use Rattle.tables.specs.Faults.{lowest, firstFault}
+use Rattle.tables.specs.Rows.{definitionOf}
+use Rattle.tables.proofs.Faults.{found-refuses, nothing-leaves}
+use Rattle.checker.specs.Check.{badLevel, levelTest, supportTest, blockingTest, levelTests}
+use Rattle.checker.proofs.MarkedRules.{heads-readable, heads-count}
+use Rattle.checker.proofs.level_fault.Statement.{statement}
+use Rattle.checker.proofs.level_fault.Tie as tie
+
+level-is :
+    (c : tie.After-bad-level) →
+    let a = c .before .before .before .before .before .before .before .before .before .before .before .args in
+    let d = definitionOf (length (a .values .now)) (a .rules .now) (a .literals .now) in
+    c .bad-level .result ≡ lowest (d .size) (badLevel d (a .levels .now))
+level-is c =
+    let pre = c .before .before .before .before .before .before .before .before .before .before .before .pre in
+    let readable = heads-readable _ _ _ _ (pre .few) _ (c .before .before .before .before .before .mark-heads .ensures) (pre .long) in
+    c .bad-level .ensures _ readable (heads-count _ _ _ _ (pre .few) _ readable ∙ sym (c .before .before .count-marked .ensures))
+
+levels-fit :
+    (c : tie.After-enum-told) →
+    let a = c .before .before .before .before .before .before .before .before .before .before .before .before .before .args in
+    let d = definitionOf (length (a .values .now)) (a .rules .now) (a .literals .now) in
+    firstFault (levelTests d (a .rules .now) (a .literals .now) (a .values .now) (a .levels .now))
+    ≡ firstFault (supportTest d (a .values .now) (a .levels .now) ∷ blockingTest d (a .rules .now) (a .literals .now) (a .values .now) (a .levels .now) ∷ [])
+unfolding levelTests levelTest
+levels-fit c = nothing-leaves _ _ _ _ refl (level-is (c .before .before)) (c .enum-told .given .1)
+
+slice-aggregate-mark-heads : tie.Need-slice-aggregate-mark-heads
+slice-aggregate-mark-heads c = search needs
+
+mark-heads-requires : tie.Need-mark-heads-requires
+mark-heads-requires c κs = λ row l.
+    let pre = c .before .before .before .before .before .pre in
+    let head = pre .rows .heads row l in
+    omega arith
+
+slice-aggregate-count-marked : tie.Need-slice-aggregate-count-marked
+slice-aggregate-count-marked c = search needs
+
+count-marked-requires : tie.Need-count-marked-requires
+count-marked-requires c κs = search needs
+
+slice-aggregate-bad-level : tie.Need-slice-aggregate-bad-level
+slice-aggregate-bad-level c = search needs
+
+bad-level-requires : tie.Need-bad-level-requires
+bad-level-requires c κs = search needs
+
+enum-known-atom : tie.Need-enum-known-atom
+enum-known-atom c = search needs
+
+returns : tie.Need-returns
+unfolding levelTests levelTest
+returns c = found-refuses _ _ _ _ _ refl (level-is (c .before .before .before)) (c .before .atom .given .1)
+
+enum-told : tie.Need-enum-told
+enum-told c = search needs
+
+slice-aggregate-rule-fault : tie.Need-slice-aggregate-rule-fault
+slice-aggregate-rule-fault c = search needs
+
+rule-fault-requires : tie.Need-rule-fault-requires
+rule-fault-requires c κs =
+    let pre = c .before .before .before .before .before .before .before .before .before .before .before .before .before .before .pre in
+    (pre .rows, (heads-readable _ _ _ _ (pre .few) _ (c .before .before .before .before .before .before .before .before .mark-heads .ensures) (pre .long), pre .few))
+
+returns-2 : tie.Need-returns-2
+returns-2 c = c .rule-fault .ensures ∙ sym (levels-fit (c .before .before))
+
+pub level-fault-spec : {M : Type 1} → statement M
+level-fault-spec =
+    tie.close
+    (tie.spec
+    slice-aggregate-mark-heads
+    mark-heads-requires
+    slice-aggregate-count-marked
+    count-marked-requires
+    slice-aggregate-bad-level
+    bad-level-requires
+    enum-known-atom
+    returns
+    enum-told
+    slice-aggregate-rule-fault
+    rule-fault-requires
+    returns-2)

@@ -1,0 +1,67 @@
+-- What the evaluator (the paper's maker) answers and leaves in each slice.
+use Prim.Native.Nat.{ℕ}
+use mathlib.Core.Bool.{Bool, not, cond}
+use mathlib.Core.List.{List, [], _∷_, _++_}
+use lib.Dec.{eqb}
+use lib.ListN.{length, replicate}
+use Rattle.wellfounded.specs.Literals.{isHeld, valueAt}
+use Rattle.wellfounded.specs.Definitions.{Definition, isDefined}
+use Rattle.wellfounded.specs.Stages.{closure, wellFoundedModel, stagesOf}
+use Rattle.tables.specs.declared.Fault.the-variants.{Value, Undecided}
+use Rattle.tables.specs.declared.Verdict.{Verdict}
+use Rattle.tables.specs.declared.Verdict.the-variants.{Accepted, Refused}
+use Rattle.tables.specs.Faults.{Test, firstFault}
+use Rattle.tables.specs.Sound.{Tables, bookOf, tableTests, sliceTest}
+use Rattle.tables.specs.Satisfied.{satisfactionTests}
+
+-- 21: an open atom's value that is not 0 or 1, or a defined atom's that is not 0.
+unfoldable pub badSetting : Definition → List ℕ → ℕ → Bool
+badSetting d setting atom = not (cond (isDefined d atom) (eqb (valueAt setting atom) 0) (isHeld (valueAt setting atom)))
+
+-- 25: an atom that the model leaves undecided.
+unfoldable pub undecidedIn : List ℕ → ℕ → Bool
+undecidedIn model atom = not (isHeld (valueAt model atom))
+
+unfoldable pub settingTest : Tables → List ℕ → Test
+settingTest t setting = record { fault = Value; positions = t .atoms; bad = badSetting (bookOf t) setting }
+
+unfoldable pub undecidedTest : Tables → List ℕ → Test
+undecidedTest t model = record { fault = Undecided; positions = t .atoms; bad = undecidedIn model }
+
+-- The faults that stop the evaluator before it writes anything: those of the tables, of the slices, and of the setting.
+unfoldable pub refusalTests : Tables → List ℕ → List ℕ → List Test
+refusalTests t setting lengths = tableTests t ++ (sliceTest (t .atoms) lengths ∷ settingTest t setting ∷ [])
+
+-- The faults of the model that it has made.
+unfoldable pub modelTests : Tables → List ℕ → List Test
+modelTests t model = undecidedTest t model ∷ satisfactionTests t model
+
+-- The answer, and what values, levels and work hold afterwards.
+pub record Evaluation : Type 0 where
+  pub verdict : Verdict
+  pub rounds : ℕ
+  pub values : List ℕ
+  pub levels : List ℕ
+  pub work : List ℕ
+
+-- Evaluated: the well-founded model with its stages, work all 0, and the closure number for rounds.
+unfoldable pub evaluated : Tables → List ℕ → Evaluation
+evaluated t setting =
+    record {
+      verdict = firstFault (modelTests t (wellFoundedModel (bookOf t) setting));
+      rounds = closure (bookOf t) setting;
+      values = wellFoundedModel (bookOf t) setting;
+      levels = stagesOf (bookOf t) setting;
+      work = replicate (t .atoms) 0;
+    }
+
+-- Stopped: nothing is written and rounds is 0.
+unfoldable pub stoppedOr : Verdict → List ℕ → List ℕ → List ℕ → Evaluation → Evaluation
+stoppedOr Accepted values levels work made = made
+stoppedOr (Refused fault position) values levels work made =
+    record { verdict = Refused fault position; rounds = 0; values = values; levels = levels; work = work }
+
+unfoldable pub evaluateOf : Tables → List ℕ → List ℕ → List ℕ → List ℕ → Evaluation
+evaluateOf t setting values levels work =
+    let made = evaluated t setting in
+    stoppedOr (firstFault (refusalTests t setting (length setting ∷ length values ∷ length levels ∷ length work ∷ []))) values levels work made
