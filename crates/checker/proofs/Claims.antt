@@ -21,7 +21,8 @@ use Rattle.tables.specs.Sound.{Tables, bookOf, Sound}
 use Rattle.tables.proofs.Faults.{absent-more}
 use Rattle.tables.proofs.SoundTables.{sound-rules, slices-fit}
 use Rattle.tables.proofs.Satisfied.{absent-satisfies, satisfies-absent}
-use Rattle.checker.specs.Check.{badValue, badLevel, unsupported, unblocked, valueTest, levelTest, supportTest, blockingTest, levelTests, claimTests, RightClaim}
+use Rattle.tables.specs.Marks.{notHeld}
+use Rattle.checker.specs.Check.{badLevel, unsupported, unblocked, valueTest, levelTest, supportTest, blockingTest, levelTests, claimTests, RightClaim}
 
 module _ (t : Tables) (values levels : List ℕ) where
   abbrev pub lengths : List ℕ
@@ -41,7 +42,7 @@ module _ (t : Tables) (values levels : List ℕ) where
       (anyBelow-make (ruleCount (t .rules)) (λ k. eqb (ruleHead (t .rules) k) (ruleHead (t .rules) row)) row l (eq-eqb (ruleHead (t .rules) row) _ refl))
 
   pub claim-right : Sound t lengths → ((test : Test) → List·Memᴰ test (claimTests t values levels) → Absent test) → RightClaim t values levels
-  unfolding claimTests levelTests valueTest levelTest supportTest blockingTest badValue badLevel unsupported unblocked bookOf definitionOf ruleAt
+  unfolding claimTests levelTests valueTest levelTest supportTest blockingTest notHeld badLevel unsupported unblocked bookOf definitionOf ruleAt
   claim-right sound none =
       record {
         twoValued = record {
@@ -88,7 +89,7 @@ module _ (t : Tables) (values levels : List ℕ) where
           (λ head. moved atom (at .0) head (blocked-row (at .0) (at .1) (ap (λ (a : ℕ). isFalse (valueAt values a)) head ∙ f))) e
 
   pub right-claim : Sound t lengths → RightClaim t values levels → (test : Test) → List·Memᴰ test (claimTests t values levels) → Absent test
-  unfolding claimTests levelTests valueTest levelTest supportTest blockingTest badValue badLevel unsupported unblocked bookOf definitionOf rulesOf ruleAt
+  unfolding claimTests levelTests valueTest levelTest supportTest blockingTest notHeld badLevel unsupported unblocked bookOf definitionOf rulesOf ruleAt
   right-claim sound right =
       absent-more (record { nowhere = λ atom l. ap not (right .twoValued .held atom l) })
       (absent-more (record { nowhere = λ atom l. ap not (levelInRange-make (bookOf t) levels atom l (right .obeys .openLevel atom) (right .obeys .definedLevel atom)) })

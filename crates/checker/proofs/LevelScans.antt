@@ -1,6 +1,6 @@
 -- What the check's scans read: values, marks and levels as the code tests them, and the rows of the rule table.
 -- Assumes nothing.
-use Prim.Native.Nat.{ℕ, zero, suc, _+_, _-_, _*_, _/_, _≤_, _<_}
+use Prim.Native.Nat.{ℕ, _+_, _-_, _*_, _/_, _≤_, _<_}
 use mathlib.Core.Path.{_≡_, refl, sym, ap, _∙_}
 use mathlib.Core.Logic.{⊎-elim}
 use mathlib.Core.Bool.{Bool, true, false, not, cond, _&&_, _||_}
@@ -10,7 +10,7 @@ use lib.Dec.{leb, ltb, eqb}
 use lib.ListN.{length, getD, take, drop}
 use borrow.Author.Tests.{lt-ltb, eq-eqb, ne-eqb}
 use Rattle.wellfounded.specs.Lists.{all, any}
-use Rattle.wellfounded.specs.Literals.{isHeld, valueAt, atomOf, isPositive, isNegated, literalFalse, bodyAt, Scannable}
+use Rattle.wellfounded.specs.Literals.{valueAt, atomOf, isPositive, isNegated, literalFalse, bodyAt, Scannable}
 use Rattle.wellfounded.specs.Definitions.{Definition, isDefined, isOpen, definedCount}
 use Rattle.wellfounded.specs.Levels.{levelAt, blocks, levelInRange}
 use Rattle.wellfounded.proofs.Tests.{decided, clash, not-both}
@@ -19,21 +19,11 @@ use Rattle.wellfounded.proofs.Literals.{false-test, positive-not-negated, not-n
 use Rattle.wellfounded.proofs.Scan.{Scanned, scan-start, scan-turn, scan-stop, scan-end, part-body, part-scannable}
 use Rattle.tables.specs.Rows.{Entry, ruleCount, ruleHead, ruleStart, ruleSize, ruleBody}
 use Rattle.tables.specs.Satisfied.{RulesScannable}
-use Rattle.checker.specs.Check.{badValue, unblocked}
+use Rattle.checker.specs.Check.{unblocked}
 use Rattle.tables.specs.Marks.{isMarked}
 use Rattle.checker.specs.Marks.{Readable, Reached}
 
 -- ── Values ──
-
-held-test : (v : ℕ) → not (isHeld v) ≡ ltb 1 v
-unfolding isHeld
-held-test zero = refl
-held-test (suc zero) = refl
-held-test (suc (suc v)) = sym (lt-ltb 1 (suc (suc v)) (omega arith))
-
-pub bad-value-read : (values : List ℕ) (atom : ℕ) → atom < length values → badValue values atom ≡ ltb 1 (getD values atom 0)
-unfolding badValue valueAt
-bad-value-read values atom l = rw (held-test, getD-default values atom 2 0 l)
 
 -- ── Marks and levels ──
 

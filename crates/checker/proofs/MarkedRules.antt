@@ -2,11 +2,10 @@
 -- Assumes nothing.
 use Prim.Native.Nat.{ℕ, _≤_, _<_}
 use mathlib.Core.Path.{_≡_, refl, sym, _∙_}
-use mathlib.Core.Bool.{Bool, true, false, not, _&&_, _||_, or-false, and-false}
+use mathlib.Core.Bool.{Bool, true, false, not, _&&_, and-false}
 use mathlib.Core.List.{List, List·Memᴰ}
 use native.Mathlib.Omega.{arith}
-use lib.ListN.{length, replicate, getD-replicate, length-replicate}
-use borrow.Author.Tests.{lt-ltb}
+use lib.ListN.{length, replicate, length-replicate}
 use Rattle.wellfounded.specs.Lists.{count}
 use Rattle.wellfounded.specs.Literals.{isTrue, valueAt}
 use Rattle.wellfounded.specs.Definitions.{isDefined, definedCount}
@@ -19,18 +18,10 @@ use Rattle.tables.specs.Satisfied.{ClausesScannable, LoadsScannable}
 use Rattle.tables.specs.Marks.{isMarked, markWhere}
 use Rattle.tables.proofs.Faults.{lowest-same}
 use Rattle.tables.proofs.SoundTables.{sound-sizes, sound-rules, sound-clauses, sound-loads}
-use Rattle.tables.proofs.MarkLaws.{marked-where, mark-length}
+use Rattle.tables.proofs.MarkLaws.{fresh-marks, heads-tell, mark-length}
 use Rattle.checker.specs.Check.{unsupported}
 use Rattle.checker.specs.Marks.{Readable, Levelled, supportedBy}
 use Rattle.checker.proofs.Supported.{supported-by-all}
-
--- A fresh array has no marks, so after marking exactly those are marked that pass.
-fresh-marks : (passes : ℕ → Bool) (atom : ℕ) → atom < 1024 → isMarked (markWhere passes (replicate 1024 0)) atom ≡ passes atom
-unfolding isMarked
-fresh-marks passes atom l = marked-where passes (replicate 1024 0) atom (rw length-replicate l) ∙ none (passes atom)
-  where
-    none : (b : Bool) → (b || isMarked (replicate 1024 0) atom) ≡ b
-    none b = rw (getD-replicate {A = ℕ} 1024 atom 0 0 l) (or-false b)
 
 module _ (rules literals values levels : List ℕ) (few : length values ≤ 1024) where
   -- The marks of the heads tell who is defined,
@@ -41,7 +32,7 @@ module _ (rules literals values levels : List ℕ) (few : length values ≤ 1024
   heads-readable defined is levelled =
       record {
         room = rw (is, mark-length, length-replicate) few;
-        tells = λ atom l. rw (is, lt-ltb atom (length values) l) (fresh-marks (headsRule rules) atom (omega arith));
+        tells = heads-tell (length values) 1024 rules literals defined few is;
         valued = refl;
         levelled = levelled;
       }
@@ -67,7 +58,7 @@ module _ (rules literals values levels : List ℕ) (few : length values ≤ 1024
       marked :
           (atom : ℕ) → atom < 1024 →
           isMarked supported atom ≡ supportedBy (definitionOf (length values) rules literals) rules literals values levels (ruleCount rules) atom
-      marked atom l = rw is (fresh-marks _ atom l)
+      marked atom l = rw is (fresh-marks 1024 _ atom l)
 
       agree :
           (atom : ℕ) (v : Bool) → isTrue (valueAt values atom) ≡ v →

@@ -20,11 +20,12 @@ use Rattle.tables.specs.Loads.{loadSum, loadAt}
 use Rattle.tables.specs.Satisfied.{failingClause, failingLoad}
 use Rattle.tables.proofs.Satisfied.{clause-holds-use, clause-holds-make}
 use Rattle.tables.proofs.LoadLaws.{load-holds-use, load-holds-make}
-use Rattle.checker.specs.Check.{badValue, badLevel, unsupported, unblocked}
+use Rattle.tables.specs.Marks.{notHeld}
+use Rattle.checker.specs.Check.{badLevel, unsupported, unblocked}
 
 -- 21: the value is not 0 or 1.
-pub value-fault : (values : List ℕ) (atom : ℕ) → (badValue values atom ≡ true) ↔ ((valueAt values atom ≡ 0 → ⊥) × (valueAt values atom ≡ 1 → ⊥))
-unfolding badValue isHeld
+pub value-fault : (values : List ℕ) (atom : ℕ) → (notHeld values atom ≡ true) ↔ ((valueAt values atom ≡ 0 → ⊥) × (valueAt values atom ≡ 1 → ⊥))
+unfolding notHeld isHeld
 value-fault values atom = (λ h. says (valueAt values atom) h, λ n. fails (valueAt values atom) (n .0) (n .1))
   where
     says : (v : ℕ) → not (isHeld v) ≡ true → (v ≡ 0 → ⊥) × (v ≡ 1 → ⊥)

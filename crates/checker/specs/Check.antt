@@ -4,7 +4,7 @@ use mathlib.Core.Bool.{Bool, not, _&&_}
 use mathlib.Core.List.{List, [], _∷_, _++_}
 use lib.ListN.{length}
 use Rattle.wellfounded.specs.Lists.{any}
-use Rattle.wellfounded.specs.Literals.{isTrue, isFalse, isHeld, valueAt}
+use Rattle.wellfounded.specs.Literals.{isTrue, isFalse, valueAt}
 use Rattle.wellfounded.specs.Definitions.{Definition, isDefined}
 use Rattle.wellfounded.specs.Stages.{TwoValued}
 use Rattle.wellfounded.specs.Levels.{Obeys, levelInRange, isSupported, blocks}
@@ -13,11 +13,8 @@ use Rattle.tables.specs.declared.Verdict.{Verdict}
 use Rattle.tables.specs.Faults.{Test, firstFault}
 use Rattle.tables.specs.Rows.{ruleCount, ruleHead, ruleBody}
 use Rattle.tables.specs.Sound.{Tables, bookOf, tableTests, sliceTest}
+use Rattle.tables.specs.Marks.{notHeld}
 use Rattle.tables.specs.Satisfied.{Satisfies, satisfactionTests}
-
--- 21: a value that is not 0 or 1.
-unfoldable pub badValue : List ℕ → ℕ → Bool
-badValue values atom = not (isHeld (valueAt values atom))
 
 -- 22: a level that is not 0 at an open atom, or outside 1 to D at a defined one.
 unfoldable pub badLevel : Definition → List ℕ → ℕ → Bool
@@ -33,8 +30,9 @@ unblocked d rules literals values levels row =
     isFalse (valueAt values (ruleHead rules row))
     && not (any (blocks d values levels (ruleHead rules row)) (ruleBody rules literals row))
 
+-- 21: a value that is not 0 or 1.
 unfoldable pub valueTest : ℕ → List ℕ → Test
-valueTest atoms values = record { fault = Value; positions = atoms; bad = badValue values }
+valueTest atoms values = record { fault = Value; positions = atoms; bad = notHeld values }
 
 unfoldable pub levelTest : Definition → List ℕ → Test
 levelTest d levels = record { fault = Level; positions = d .size; bad = badLevel d levels }

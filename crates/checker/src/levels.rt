@@ -1,27 +1,13 @@
-// Values and levels, atom by atom.
+// Levels, atom by atom.
 ghost use mathlib.Core.Path.{_≡_};
 ghost use Prim.Native.Nat.{_≤_, _<_};
 ghost use lib.ListN.{length};
 ghost use Rattle.wellfounded.specs.Definitions.{Definition, definedCount};
 ghost use Rattle.wellfounded.specs.Levels.{levelInRange};
 ghost use Rattle.tables.specs.Faults.{lowest};
-ghost use Rattle.checker.specs.Check.{badValue, badLevel};
+ghost use Rattle.checker.specs.Check.{badLevel};
 ghost use Rattle.checker.specs.Marks.{Readable, Reached};
 use tables::Found;
-
-// The lowest atom whose value is not 0 or 1.
-pub fn bad_value(values: &[u8]) -> Found
-    ensures { λ r. ⌜ r ≡ lowest (length (now (values .entry))) (badValue (now (values .entry))) ⌝ }
-{
-    let mut atom = 0;
-    while atom < values.len() {
-        if 1 < values[atom] {
-            return Found::At(atom);
-        }
-        atom += 1;
-    }
-    Found::Nothing
-}
 
 // Whether the atom's level is 0 where it is open, and from 1 to `most` where it is defined.
 fn level_in_range(defined: &[u8], most: usize, values: &[u8], levels: &[u16], atom: usize) -> bool

@@ -16,7 +16,6 @@ pub mod support;
 
 use blocking::unblocked_row;
 use levels::bad_level;
-use levels::bad_value;
 use support::mark_supported;
 use support::unsupported_atom;
 use tables::Fault;
@@ -26,6 +25,7 @@ use tables::marks::count_marked;
 use tables::marks::mark_heads;
 use tables::satisfaction::satisfaction_fault;
 use tables::sizes::table_fault;
+use tables::values::not_held_atom;
 
 // The first fault of the rules: a true atom without its rule, or else a false atom's rule without a blocking literal.
 fn rule_fault(
@@ -88,7 +88,7 @@ fn claim_fault(
         (now («load_literals» .entry)) (now (minutes .entry)))
         (now (values .entry)) (now (levels .entry))) ⌝ }
 {
-    if let Found::At(atom) = bad_value(values) {
+    if let Found::At(atom) = not_held_atom(values) {
         return Verdict::Refused(Fault::Value, atom);
     }
     let verdict = level_fault(rules, literals, values, levels);

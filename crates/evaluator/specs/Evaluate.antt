@@ -1,5 +1,6 @@
 -- What the evaluator (the paper's maker) answers and leaves in each slice.
-use Prim.Native.Nat.{ℕ}
+use Prim.Native.Nat.{ℕ, _≤_}
+use mathlib.Core.Path.{_≡_}
 use mathlib.Core.Bool.{Bool, not, cond}
 use mathlib.Core.List.{List, [], _∷_, _++_}
 use lib.Dec.{eqb}
@@ -12,29 +13,28 @@ use Rattle.tables.specs.declared.Verdict.{Verdict}
 use Rattle.tables.specs.declared.Verdict.the-variants.{Accepted, Refused}
 use Rattle.tables.specs.Faults.{Test, firstFault}
 use Rattle.tables.specs.Sound.{Tables, bookOf, tableTests, sliceTest}
-use Rattle.tables.specs.Satisfied.{satisfactionTests}
+use Rattle.tables.specs.Marks.{notHeld}
+use Rattle.tables.specs.Limits.{maxAtoms}
+use Rattle.tables.specs.Satisfied.{satisfactionTests, RulesScannable, ClausesScannable, LoadsScannable}
 
 -- 21: an open atom's value that is not 0 or 1, or a defined atom's that is not 0.
 unfoldable pub badSetting : Definition → List ℕ → ℕ → Bool
 badSetting d setting atom = not (cond (isDefined d atom) (eqb (valueAt setting atom) 0) (isHeld (valueAt setting atom)))
 
+unfoldable pub settingTest : Definition → List ℕ → Test
+settingTest d setting = record { fault = Value; positions = d .size; bad = badSetting d setting }
+
 -- 25: an atom that the model leaves undecided.
-unfoldable pub undecidedIn : List ℕ → ℕ → Bool
-undecidedIn model atom = not (isHeld (valueAt model atom))
-
-unfoldable pub settingTest : Tables → List ℕ → Test
-settingTest t setting = record { fault = Value; positions = t .atoms; bad = badSetting (bookOf t) setting }
-
-unfoldable pub undecidedTest : Tables → List ℕ → Test
-undecidedTest t model = record { fault = Undecided; positions = t .atoms; bad = undecidedIn model }
+unfoldable pub undecidedTest : ℕ → List ℕ → Test
+undecidedTest atoms model = record { fault = Undecided; positions = atoms; bad = notHeld model }
 
 -- The faults that stop the evaluator before it writes anything: those of the tables, of the slices, and of the setting.
 unfoldable pub refusalTests : Tables → List ℕ → List ℕ → List Test
-refusalTests t setting lengths = tableTests t ++ (sliceTest (t .atoms) lengths ∷ settingTest t setting ∷ [])
+refusalTests t setting lengths = tableTests t ++ (sliceTest (t .atoms) lengths ∷ settingTest (bookOf t) setting ∷ [])
 
 -- The faults of the model that it has made.
 unfoldable pub modelTests : Tables → List ℕ → List Test
-modelTests t model = undecidedTest t model ∷ satisfactionTests t model
+modelTests t model = undecidedTest (t .atoms) model ∷ satisfactionTests t model
 
 -- The answer, and what values, levels and work hold afterwards.
 pub record Evaluation : Type 0 where
@@ -65,3 +65,21 @@ unfoldable pub evaluateOf : Tables → List ℕ → List ℕ → List ℕ → Li
 evaluateOf t setting values levels work =
     let made = evaluated t setting in
     stoppedOr (firstFault (refusalTests t setting (length setting ∷ length values ∷ length levels ∷ length work ∷ []))) values levels work made
+
+-- A call's answer and the content of its slices afterwards are an evaluation.
+pub record Answers (e : Evaluation) (verdict : Verdict) (rounds : ℕ) (values levels work : List ℕ) : Type 0 where
+  pub verdictIs : verdict ≡ e .verdict
+  pub roundsIs : rounds ≡ e .rounds
+  pub valuesIs : values ≡ e .values
+  pub levelsIs : levels ≡ e .levels
+  pub workIs : work ≡ e .work
+
+-- What the evaluation may rely on where the tables and the slices have no fault.
+pub record Lent (t : Tables) (values levels work : List ℕ) : Type 0 where
+  pub few : t .atoms ≤ maxAtoms
+  pub rows : RulesScannable (t .rules) (t .literals) (t .atoms)
+  pub clauseRows : ClausesScannable (t .clauses) (t .literals) (t .atoms)
+  pub loadRows : LoadsScannable (t .loads) (t .loadLiterals) (t .minutes) (t .atoms)
+  pub valuesLong : length values ≡ t .atoms
+  pub levelsLong : length levels ≡ t .atoms
+  pub workLong : length work ≡ t .atoms

@@ -1,16 +1,19 @@
 -- A round: from one stage to the next, in place.
-use Prim.Native.Nat.{ℕ}
+use Prim.Native.Nat.{ℕ, suc, _≤_, _<_}
 use mathlib.Core.Path.{_≡_}
-use mathlib.Core.Bool.{Bool, not, cond, _&&_, _||_}
+use mathlib.Core.Bool.{Bool, true, false, not, cond, _&&_, _||_}
 use mathlib.Core.List.{List}
 use lib.Dec.{eqb}
-use lib.ListN.{length, getD}
+use lib.ListN.{length, getD, replicate}
 use Rattle.wellfounded.specs.Lists.{any, anyBelow, count, least, tabulate}
 use Rattle.wellfounded.specs.Literals.{isHeld, valueAt, atomOf, isNegated, bodyTrue}
-use Rattle.wellfounded.specs.Definitions.{Definition}
-use Rattle.wellfounded.specs.Stages.{stage}
-use Rattle.tables.specs.Rows.{ruleHead, ruleBody}
-use Rattle.tables.specs.Marks.{isMarked}
+use Rattle.wellfounded.specs.Definitions.{Definition, isDefined}
+use Rattle.wellfounded.specs.Stages.{stage, closure, wellFoundedModel, stagesOf}
+use Rattle.tables.specs.Limits.{maxAtoms}
+use Rattle.tables.specs.Rows.{ruleHead, ruleBody, definitionOf}
+use Rattle.tables.specs.Satisfied.{RulesScannable}
+use Rattle.tables.specs.Marks.{isMarked, markWhere}
+use Rattle.evaluator.specs.Founding.{Founded}
 
 -- A row makes its head true if that is undecided and the body is all true.
 unfoldable pub rowFires : List ℕ → List ℕ → List ℕ → ℕ → Bool
@@ -61,3 +64,56 @@ decidedLevels level state firing founded levels =
 pub record Changes (state firing founded negated : List ℕ) (decided : ℕ) (renewed : Bool) : Type 0 where
   pub many : decided ≡ count (length state) (decides state firing founded)
   pub again : renewed ≡ anyBelow (length state) (negatedBecomesTrue state firing negated)
+
+-- The evaluator stands at stage k: its slices hold that stage and its levels, its marks tell who is defined, who is founded and
+-- who occurs negated, and every round so far has changed something.
+pub record AtStage (rules literals setting : List ℕ) (k : ℕ) (defined negated founded values levels work : List ℕ) : Type 0 where
+  pub few : length setting ≤ maxAtoms
+  pub rows : RulesScannable rules literals (length setting)
+  pub definedRoom : length defined ≡ maxAtoms
+  pub definedTells :
+    (atom : ℕ) → atom < length setting → isMarked defined atom ≡ isDefined (definitionOf (length setting) rules literals) atom
+  pub negatedTells : negated ≡ markWhere (occursNegated literals) (replicate maxAtoms 0)
+  pub foundedRoom : length founded ≡ maxAtoms
+  pub foundedTells : Founded (definitionOf (length setting) rules literals) (stage (definitionOf (length setting) rules literals) setting k) founded
+  pub atValues : values ≡ stage (definitionOf (length setting) rules literals) setting k
+  pub atLevels : levels ≡ levelsAfter (definitionOf (length setting) rules literals) setting k
+  pub atWork : work ≡ replicate (length setting) 0
+  pub moved :
+    (j : ℕ) → j < k →
+    stage (definitionOf (length setting) rules literals) setting (suc j) ≡ stage (definitionOf (length setting) rules literals) setting j → ⊥
+
+-- What a round needs of its slices to stay within them.
+pub record Roomy (rules literals defined negated founded values levels work : List ℕ) : Type 0 where
+  pub rows : RulesScannable rules literals (length values)
+  pub definedRoom : length defined ≡ length founded
+  pub negatedRoom : length values ≤ length negated
+  pub foundedRoom : length values ≤ length founded
+  pub levelsLong : length levels ≡ length values
+  pub workLong : length work ≡ length values
+
+-- What the evaluation of a sound book is handed.
+pub record Started (rules literals defined setting values levels work : List ℕ) : Type 0 where
+  pub few : length setting ≤ maxAtoms
+  pub rows : RulesScannable rules literals (length setting)
+  pub definedRoom : length defined ≡ maxAtoms
+  pub definedTells :
+    (atom : ℕ) → atom < length setting → isMarked defined atom ≡ isDefined (definitionOf (length setting) rules literals) atom
+  pub valuesLong : length values ≡ length setting
+  pub levelsLong : length levels ≡ length setting
+  pub workLong : length work ≡ length setting
+
+-- A round that changed something has come to the next stage; one that did not has shown that the stage is the last.
+pub record RoundDone (rules literals setting : List ℕ) (k : ℕ) (defined negated founded values levels work : List ℕ) (again : Bool) : Type 0 where
+  pub next : again ≡ true → AtStage rules literals setting (suc k) defined negated founded values levels work
+  pub last :
+    again ≡ false →
+    AtStage rules literals setting k defined negated founded values levels work ×
+    (stage (definitionOf (length setting) rules literals) setting (suc k) ≡ stage (definitionOf (length setting) rules literals) setting k)
+
+-- All rounds are done.
+pub record RoundsDone (rules literals setting values levels work : List ℕ) (rounds : ℕ) : Type 0 where
+  pub model : values ≡ wellFoundedModel (definitionOf (length setting) rules literals) setting
+  pub stages : levels ≡ stagesOf (definitionOf (length setting) rules literals) setting
+  pub cleared : work ≡ replicate (length setting) 0
+  pub many : rounds ≡ closure (definitionOf (length setting) rules literals) setting

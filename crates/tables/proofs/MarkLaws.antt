@@ -1,22 +1,24 @@
 -- Laws of marks: what a mark reads, and a loop over rule rows that puts 1 at the atoms which pass a test of the row.
 -- Assumes nothing.
-use Prim.Native.Nat.{ℕ, _+_, _<_}
+use Prim.Native.Nat.{ℕ, zero, suc, _+_, _≤_, _<_}
 use mathlib.Core.Path.{_≡_, refl, sym, ap, _∙_, fun-ext}
 use mathlib.Core.Logic.{⊎-elim}
-use mathlib.Core.Bool.{Bool, true, false, cond, _&&_, _||_, false≢true}
+use mathlib.Core.Bool.{Bool, true, false, not, cond, _&&_, _||_, false≢true, or-false}
 use mathlib.Core.List.{List}
 use native.Mathlib.Numerals.{add-one}
 use native.Mathlib.Omega.{arith}
-use lib.Dec.{eqb}
-use lib.ListN.{length, getD, set, length-set}
+use lib.Dec.{eqb, ltb}
+use lib.ListN.{length, getD, set, length-set, replicate, length-replicate, getD-replicate}
 use lib.Seq.{ext-getD, getD-set-same, getD-set-other}
-use borrow.Author.Tests.{eqb-true, eqb-false, eq-eqb, ne-eqb}
+use borrow.Author.Tests.{eqb-true, eqb-false, eq-eqb, ne-eqb, lt-ltb, le-ltb}
 use Rattle.wellfounded.specs.Lists.{anyBelow, count}
 use Rattle.wellfounded.specs.Literals.{isTrue, valueAt}
+use Rattle.wellfounded.specs.Definitions.{isDefined}
 use Rattle.wellfounded.proofs.Lists.{length-tabulate, getD-tabulate, getD-default}
-use Rattle.wellfounded.proofs.Literals.{true-test}
+use Rattle.wellfounded.proofs.Literals.{true-test, held-at}
 use Rattle.wellfounded.proofs.Tests.{decided, both, or-right}
-use Rattle.tables.specs.Marks.{isMarked, markWhere}
+use Rattle.tables.specs.Rows.{headsRule, definitionOf}
+use Rattle.tables.specs.Marks.{isMarked, markWhere, notHeld}
 
 or-none : (a b : Bool) → b ≡ false → (a || b) ≡ a
 or-none true b none = refl
@@ -52,6 +54,21 @@ marked-where passes marks atom l = rw (mark-at passes marks atom l) (step (passe
 
 pub mark-none : (marks : List ℕ) → markWhere (λ atom. false) marks ≡ marks
 mark-none marks = ext-getD 0 _ _ (mark-length _ marks) (λ atom l. mark-at _ marks atom (rw mark-length at l))
+
+-- In an array without marks exactly those are marked that pass.
+pub fresh-marks : (n : ℕ) (passes : ℕ → Bool) (atom : ℕ) → atom < n → isMarked (markWhere passes (replicate n 0)) atom ≡ passes atom
+unfolding isMarked
+fresh-marks n passes atom l = marked-where passes (replicate n 0) atom (rw length-replicate l) ∙ none (passes atom)
+  where
+    none : (b : Bool) → (b || isMarked (replicate n 0) atom) ≡ b
+    none b = rw (getD-replicate {A = ℕ} n atom 0 0 l) (or-false b)
+
+-- So the marks of the heads tell who is defined.
+pub heads-tell :
+    (atoms n : ℕ) (rules literals marks : List ℕ) → atoms ≤ n → marks ≡ markWhere (headsRule rules) (replicate n 0) →
+    (atom : ℕ) → atom < atoms → isMarked marks atom ≡ isDefined (definitionOf atoms rules literals) atom
+unfolding definitionOf isDefined
+heads-tell atoms n rules literals marks room is atom l = rw (is, lt-ltb atom atoms l) (fresh-marks n (headsRule rules) atom (omega arith))
 
 -- Tests that agree make the same marks.
 pub mark-same : (p q : ℕ → Bool) (marks : List ℕ) → ((atom : ℕ) → p atom ≡ q atom) → markWhere p marks ≡ markWhere q marks
@@ -132,3 +149,12 @@ module _ (marks : List ℕ) (n marked : ℕ) (so : marked ≡ count n (isMarked 
 pub true-at : (values : List ℕ) (atom : ℕ) → atom < length values → isTrue (valueAt values atom) ≡ eqb (getD values atom 0) 1
 unfolding valueAt
 true-at values atom l = rw (true-test, getD-default values atom 2 0 l)
+
+pub not-held-at : (values : List ℕ) (atom : ℕ) → atom < length values → notHeld values atom ≡ ltb 1 (getD values atom 0)
+unfolding notHeld
+not-held-at values atom l = rw (held-at values atom l) (above (getD values atom 0))
+  where
+    above : (v : ℕ) → not (ltb v 2) ≡ ltb 1 v
+    above zero = refl
+    above (suc zero) = refl
+    above (suc (suc v)) = rw (le-ltb (suc (suc v)) 2 (omega arith)) (sym (lt-ltb 1 (suc (suc v)) (omega arith)))

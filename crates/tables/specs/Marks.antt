@@ -1,10 +1,11 @@
--- Marks on atoms, as a scan keeps them in an array.
+-- Marks on atoms, as a scan keeps them in an array, and atoms without a value.
 use Prim.Native.Nat.{ℕ}
-use mathlib.Core.Bool.{Bool, cond}
+use mathlib.Core.Bool.{Bool, not, cond}
 use mathlib.Core.List.{List}
 use lib.Dec.{eqb}
 use lib.ListN.{length, getD}
 use Rattle.wellfounded.specs.Lists.{tabulate}
+use Rattle.wellfounded.specs.Literals.{isHeld, valueAt}
 
 -- An atom is marked by 1.
 unfoldable pub isMarked : List ℕ → ℕ → Bool
@@ -13,3 +14,7 @@ isMarked marks atom = eqb (getD marks atom 0) 1
 -- The marks with 1 put at every atom that passes the test.
 unfoldable pub markWhere : (ℕ → Bool) → List ℕ → List ℕ
 markWhere passes marks = tabulate (length marks) (λ atom. cond (passes atom) 1 (getD marks atom 0))
+
+-- An atom whose value is neither 0 nor 1.
+unfoldable pub notHeld : List ℕ → ℕ → Bool
+notHeld values atom = not (isHeld (valueAt values atom))

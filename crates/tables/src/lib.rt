@@ -5,6 +5,7 @@ ghost use Rattle.tables.specs.Faults.{faultNumber, numberOf, positionOf}
 pub mod clauses;
 pub mod loads;
 pub mod marks;
+pub mod values;
 pub mod rows;
 pub mod satisfaction;
 pub mod sizes;

@@ -19,17 +19,17 @@ values-fit :
     firstFault (claimTests t (a .values .now) (a .levels .now))
     ≡ firstFault (levelTests (bookOf t) (a .rules .now) (a .literals .now) (a .values .now) (a .levels .now) ++ satisfactionTests t (a .values .now))
 unfolding claimTests valueTest lent
-values-fit c = nothing-leaves _ _ _ _ refl (c .before .before .bad-value .ensures) (c .enum-told .given .1)
+values-fit c = nothing-leaves _ _ _ _ refl (c .before .before .not-held-atom .ensures) (c .enum-told .given .1)
 
-bad-value-requires : tie.Need-bad-value-requires
-bad-value-requires c κs = search needs
+not-held-atom-requires : tie.Need-not-held-atom-requires
+not-held-atom-requires c κs = search needs
 
 enum-known-atom : tie.Need-enum-known-atom
 enum-known-atom c = search needs
 
 returns : tie.Need-returns
 unfolding claimTests valueTest lent
-returns c = found-refuses _ _ _ _ _ refl (c .before .before .before .bad-value .ensures) (c .before .atom .given .1)
+returns c = found-refuses _ _ _ _ _ refl (c .before .before .before .not-held-atom .ensures) (c .before .atom .given .1)
 
 enum-told : tie.Need-enum-told
 enum-told c = search needs
@@ -61,7 +61,7 @@ pub claim-fault-spec : {M : Type 1} → statement M
 claim-fault-spec =
     tie.close
     (tie.spec
-    bad-value-requires
+    not-held-atom-requires
     enum-known-atom
     returns
     enum-told

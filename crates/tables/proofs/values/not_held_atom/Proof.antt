@@ -1,20 +1,20 @@
--- `checker::levels::bad_value` meets its contract: below `atom` no value fails.
+-- `tables::values::not_held_atom` meets its contract: below `atom` no value fails.
 -- Assumes nothing.
 use Prim.Native.Nat.{_-_, _≤_}
 use mathlib.Core.Path.{_≡_, sym, _∙_}
 use native.Mathlib.Omega.{arith}
 use lib.ListN.{length}
 use borrow.Author.Tests.{lt-ltb, le-ltb}
 use Rattle.tables.specs.declared.Found.the-variants.{Nothing}
 use Rattle.tables.specs.Faults.{lowest}
 use Rattle.tables.proofs.Faults.{lowest-start, lowest-turn, lowest-stop, lowest-end}
-use Rattle.checker.specs.Check.{badValue}
-use Rattle.checker.proofs.LevelScans.{bad-value-read}
-use Rattle.checker.proofs.levels.bad_value.Statement.{statement}
-use Rattle.checker.proofs.levels.bad_value.Tie as tie
+use Rattle.tables.specs.Marks.{notHeld}
+use Rattle.tables.proofs.MarkLaws.{not-held-at}
+use Rattle.tables.proofs.values.not_held_atom.Statement.{statement}
+use Rattle.tables.proofs.values.not_held_atom.Tie as tie
 
 abbrev Inv-loop : tie.InvT-loop
-Inv-loop values atom₀ atom = (atom ≤ length values) × (lowest atom (badValue values) ≡ Nothing)
+Inv-loop values atom₀ atom = (atom ≤ length values) × (lowest atom (notHeld values) ≡ Nothing)
 
 abbrev μ-loop : tie.MeasureT-loop
 μ-loop values atom₀ atom = length values - atom
@@ -27,7 +27,7 @@ shared-slice-read-if1 c = omega arith
 
 returns : tie.Need-returns Inv-loop μ-loop
 returns c =
-    sym (lowest-stop _ _ _ (c .before .before .before .loop .inv .1) (bad-value-read _ _ (omega arith) ∙ lt-ltb _ _ (c .if1 .taken)) (omega arith))
+    sym (lowest-stop _ _ _ (c .before .before .before .loop .inv .1) (not-held-at _ _ (omega arith) ∙ lt-ltb _ _ (c .if1 .taken)) (omega arith))
 
 add-atom : tie.Need-add-atom Inv-loop μ-loop
 add-atom c = omega arith
@@ -37,13 +37,13 @@ loop-less c = omega arith
 
 loop-again : tie.Need-loop-again Inv-loop μ-loop
 loop-again c =
-    (omega arith, lowest-turn _ _ (c .before .before .before .loop .inv .1) (bad-value-read _ _ (omega arith) ∙ le-ltb _ _ (c .if1 .left)))
+    (omega arith, lowest-turn _ _ (c .before .before .before .loop .inv .1) (not-held-at _ _ (omega arith) ∙ le-ltb _ _ (c .if1 .left)))
 
 returns-2 : tie.Need-returns-2 Inv-loop μ-loop
 returns-2 c = lowest-end _ _ _ (omega arith) (omega arith) (c .before .loop .inv .1)
 
-pub bad-value-spec : {M : Type 1} → statement M
-bad-value-spec =
+pub not-held-atom-spec : {M : Type 1} → statement M
+not-held-atom-spec =
     tie.close
     (tie.spec
     Inv-loop

@@ -1,0 +1,69 @@
+-- `evaluator::evaluate` meets its contract: what is refused leaves the slices alone, and sound tables and slices are evaluated.
+-- Assumes nothing.
+use borrow.Author.Needs.{needs}
+use Rattle.tables.specs.Sound.{Tables, lent}
+use Rattle.evaluator.proofs.Evaluating.{Prepared, tables-answer, slices-answer, prepared, moved-sound, moved-answer}
+use Rattle.evaluator.proofs.evaluate.Statement.{statement}
+use Rattle.evaluator.proofs.evaluate.Tie as tie
+
+abbrev given : tie.Start → Tables
+given s =
+    let a = s .args in
+    lent (a .atoms) (a .rules .now) (a .literals .now) (a .clauses .now) (a .loads .now) (a .load-literals .now) (a .minutes .now)
+
+ready : (c : tie.Else1) → let s = c .before .before .before .before .before .before .before .before .before .before .before .before .before in Prepared (given s) (s .args .open-values .now) (s .args .values .now) (s .args .levels .now) (s .args .work .now)
+unfolding lent
+ready c = prepared (given (c .before .before .before .before .before .before .before .before .before .before .before .before .before)) _ _ _ _ _ (c .before .before .before .before .table-fault .ensures) (c .before .before .enum-told2 .given .1) _ (c .before .lengths-fit .ensures) (c .if1 .left)
+
+table-fault-requires : tie.Need-table-fault-requires
+table-fault-requires c κs = search needs
+
+enum-told : tie.Need-enum-told
+enum-told c = search needs
+
+returns : tie.Need-returns
+returns c = tables-answer (given (c .before .before .before .before .before .before .before .before .before .before .before)) _ _ _ _ _ _ _ (c .before .before .table-fault .ensures) (c .enum-told .given .1)
+
+enum-told-2 : tie.Need-enum-told-2
+enum-told-2 c = search needs
+
+lengths-fit-requires : tie.Need-lengths-fit-requires
+lengths-fit-requires c κs = search needs
+
+returns-2 : tie.Need-returns-2
+unfolding lent
+returns-2 c =
+    slices-answer (given (c .before .before .before .before .before .before .before .before .before .before .before .before .before)) _ _ _ _ _ (c .before .before .before .before .table-fault .ensures) (c .before .before .enum-told2 .given .1) _ (c .before .lengths-fit .ensures) (c .if1 .taken)
+
+evaluate-lent-requires : tie.Need-evaluate-lent-requires
+evaluate-lent-requires c κs = moved-sound _ _ _ _ _ _ _ _ _ _ _ (ready (c .before .before .before))
+
+same-length : tie.Need-same-length
+same-length c = search needs
+
+same-length-2 : tie.Need-same-length-2
+same-length-2 c = search needs
+
+same-length-3 : tie.Need-same-length-3
+same-length-3 c = search needs
+
+returns-3 : tie.Need-returns-3
+returns-3 c =
+    moved-answer _ _ _ _ _ _ _ _ _ _ _ (ready (c .before .before .before .before .before .before .before .before .before .before)) _ _ _ _ _ (c .before .before .before .before .before .before .evaluate-lent .ensures)
+
+
+pub evaluate-spec : {M : Type 1} → statement M
+evaluate-spec =
+    tie.close
+    (tie.spec
+    table-fault-requires
+    enum-told
+    returns
+    enum-told-2
+    lengths-fit-requires
+    returns-2
+    evaluate-lent-requires
+    same-length
+    same-length-2
+    same-length-3
+    returns-3)

@@ -1,0 +1,3 @@
+-- What the check and the maker promise: `Theorems`. The other file proves it.
+pub mod Theorems
+pub mod Making

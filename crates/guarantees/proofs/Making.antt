@@ -1,0 +1,188 @@
+-- What the maker answers and leaves, with the proofs of `Theorems`.
+-- Assumes nothing.
+use Prim.Native.Nat.{ℕ, _<_}
+use mathlib.Core.Path.{_≡_, refl, sym, ap, subst, _∙_}
+use mathlib.Core.Logic.{_↔_, _⊎_, ⊎-elim}
+use mathlib.Core.Bool.{Bool, true, false, not}
+use mathlib.Core.List.{List, [], _∷_, _++_, List·Memᴰ, List·Memᴰ·head, List·Memᴰ·tail, Memᴰ·append-right}
+use native.Mathlib.Omega.{arith}
+use borrow.Author.Tests.{ltb-true, eq-eqb, not-false, not-true}
+use lib.Dec.{ltb}
+use lib.ListN.{length}
+use Rattle.wellfounded.specs.Lists.{all}
+use Rattle.wellfounded.specs.Literals.{isHeld, valueAt}
+use Rattle.wellfounded.specs.Stages.{wellFoundedModel, stagesOf}
+use Rattle.wellfounded.proofs.Tests.{not-both, cond-true, cond-false}
+use Rattle.wellfounded.proofs.Lists.{all-use, length-tabulate}
+use Rattle.wellfounded.proofs.Definitions.{defined-or-open, defined-not-open}
+use Rattle.wellfounded.proofs.Closure.{model-length}
+use Rattle.wellfounded.proofs.Theorems.{complete}
+use Rattle.tables.specs.declared.Found.{Found}
+use Rattle.tables.specs.declared.Found.the-variants.{At, Nothing}
+use Rattle.tables.specs.declared.Fault.{Fault}
+use Rattle.tables.specs.declared.Fault.the-variants.{Undecided}
+use Rattle.tables.specs.declared.Verdict.{Verdict}
+use Rattle.tables.specs.declared.Verdict.the-variants.{Accepted, Refused}
+use Rattle.tables.specs.Faults.{Test, Absent, firstFault, lowest, numberOf, faultNumber, RefusedBy}
+use Rattle.tables.specs.Rows.{definitionOf}
+use Rattle.tables.specs.Sound.{Tables, bookOf, tableTests, sliceTest, Sound}
+use Rattle.tables.specs.Satisfied.{clauseTest, loadTest, satisfactionTests}
+use Rattle.tables.proofs.Faults.{lowest-at, lowest-found, first-passes, first-fails, absent-none, absent-more, accepted-absent, absent-accepted, refused-by, first-append, first-append-refused}
+use Rattle.tables.proofs.Numbers.{zero-accepted}
+use Rattle.tables.proofs.SoundTables.{slices-absent, length-none, length-more}
+use Rattle.tables.proofs.Satisfied.{absent-satisfies, satisfies-absent}
+use Rattle.checker.specs.Check.{checkOf}
+use Rattle.checker.proofs.Theorems.{accepted-exactly}
+use Rattle.tables.specs.Marks.{notHeld}
+use Rattle.evaluator.specs.Evaluate.{badSetting, settingTest, undecidedTest, refusalTests, modelTests, Evaluation, evaluated, stoppedOr, evaluateOf}
+use Rattle.guarantees.specs.Settings.{LentSetting, stopTests, Good}
+
+-- ── The faults that a list of tests can answer ──
+
+refused-accepted : {fault : Fault} {position : ℕ} → Refused fault position ≡ Accepted → ⊥
+refused-accepted e = let z : _≡_ {A = ℕ} 0 1 = cc in omega arith
+
+refused-among :
+    (ok : Fault → Bool) (ts : List Test) → all (λ (x : Test). ok (x .fault)) ts ≡ true →
+    (fault : Fault) (position : ℕ) → RefusedBy ts fault position → ok fault ≡ true
+refused-among ok ts every fault position r =
+    ap ok (sym (r .isFault)) ∙ all-use (λ (x : Test). ok (x .fault)) ts every
+    (subst (List·Memᴰ (r .test)) (sym (r .place)) (Memᴰ·append-right (r .earlier) (List·Memᴰ·head refl)))
+
+module _ (t : Tables) (values : List ℕ) (fault : Fault) (position : ℕ) where
+  pub refusal-number : (lengths : List ℕ) → firstFault (refusalTests t values lengths) ≡ Refused fault position → faultNumber fault < 25
+  unfolding refusalTests tableTests sliceTest settingTest all
+  refusal-number lengths e = ltb-true _ _ (refused-among (λ f. ltb (faultNumber f) 25) (refusalTests t values lengths) refl fault position (refused-by _ fault position e))
+
+  pub model-number : firstFault (modelTests t values) ≡ Refused fault position → 24 < faultNumber fault
+  unfolding modelTests undecidedTest satisfactionTests clauseTest loadTest all
+  model-number e = ltb-true _ _ (refused-among (λ f. ltb 24 (faultNumber f)) (modelTests t values) refl fault position (refused-by _ fault position e))
+
+  satisfaction-number : firstFault (satisfactionTests t values) ≡ Refused fault position → 25 < faultNumber fault
+  unfolding satisfactionTests clauseTest loadTest all
+  satisfaction-number e = ltb-true _ _ (refused-among (λ f. ltb 25 (faultNumber f)) (satisfactionTests t values) refl fault position (refused-by _ fault position e))
+
+-- 25 at a position exactly if that is the lowest atom that the values leave undecided.
+pub undecided-at :
+    (t : Tables) (values : List ℕ) (p : ℕ) →
+    (firstFault (modelTests t values) ≡ Refused Undecided p) ↔
+    ((p < t .atoms) × (isHeld (valueAt values p) ≡ false) × ((a : ℕ) → a < p → isHeld (valueAt values a) ≡ true))
+unfolding modelTests undecidedTest notHeld
+undecided-at t values p = (
+  λ e. says (lowest (t .atoms) (notHeld values)) refl e,
+  λ h. first-fails _ _ p (lowest-found _ _ p (h .0) (ap not (h .1)) (λ a l. ap not (h .2 a l))),
+)
+  where
+    says :
+        (found : Found) → lowest (t .atoms) (notHeld values) ≡ found → firstFault (modelTests t values) ≡ Refused Undecided p →
+        (p < t .atoms) × (isHeld (valueAt values p) ≡ false) × ((a : ℕ) → a < p → isHeld (valueAt values a) ≡ true)
+    says (At q) found e =
+        let same : Refused Undecided q ≡ Refused Undecided p = sym (first-fails (undecidedTest (t .atoms) values) _ q found) ∙ e in
+        let at : q ≡ p = cc in
+        let low = lowest-at (notHeld values) (t .atoms) p (found ∙ ap At at) in
+        (low .0, not-true _ (low .1), λ a l. not-false _ (low .2 a l))
+    says Nothing found e =
+        let late = satisfaction-number t values Undecided p (sym (first-passes (undecidedTest (t .atoms) values) _ found) ∙ e) in
+        absurd (omega arith)
+
+-- ── What the maker is lent ──
+
+module _ (t : Tables) (o : List ℕ) (lent : LentSetting (bookOf t) o) where
+  lent-fine : (a : ℕ) → a < t .atoms → badSetting (bookOf t) o a ≡ false
+  unfolding badSetting bookOf definitionOf
+  lent-fine a l =
+      ⊎-elim (λ h. ap not (cond-true _ _ h ∙ eq-eqb _ _ (lent .zeros a h)))
+      (λ h. ap not (cond-false _ _ (not-both _ (λ d. defined-not-open (bookOf t) a d h)) ∙ lent .setting .given a h))
+      (defined-or-open (bookOf t) a l)
+
+  pub lent-passes : (v l w : List ℕ) → Sound t (length o ∷ length v ∷ length l ∷ length w ∷ []) → firstFault (stopTests t o v l w) ≡ Accepted
+  unfolding stopTests refusalTests settingTest bookOf definitionOf
+  lent-passes v l w sound =
+      first-append (tableTests t) _ (absent-accepted (tableTests t) (sound .tables))
+      ∙ absent-accepted _ (absent-more (sound .slices) (absent-more (record { nowhere = lent-fine }) absent-none))
+
+-- ── What the maker leaves ──
+
+module _ (t : Tables) (o v l w : List ℕ) where
+  pub passed-made : firstFault (stopTests t o v l w) ≡ Accepted → evaluateOf t o v l w ≡ evaluated t o
+  unfolding evaluateOf stoppedOr stopTests
+  passed-made e = rw e
+
+  pub refused-stopped :
+      (fault : Fault) (position : ℕ) → firstFault (stopTests t o v l w) ≡ Refused fault position →
+      evaluateOf t o v l w ≡ record { verdict = Refused fault position; rounds = 0; values = v; levels = l; work = w }
+  unfolding evaluateOf stoppedOr stopTests
+  refused-stopped fault position e = rw e
+
+  -- The maker's verdict: that of the tests that stop it, and then of those of the model.
+  pub verdict-is : evaluateOf t o v l w .verdict ≡ firstFault (stopTests t o v l w ++ modelTests t (wellFoundedModel (bookOf t) o))
+  unfolding evaluated
+  verdict-is = step (firstFault (stopTests t o v l w)) refl
+    where
+      step :
+          (x : Verdict) → firstFault (stopTests t o v l w) ≡ x →
+          evaluateOf t o v l w .verdict ≡ firstFault (stopTests t o v l w ++ modelTests t (wellFoundedModel (bookOf t) o))
+      step Accepted e = ap (λ (y : Evaluation). y .verdict) (passed-made e) ∙ sym (first-append (stopTests t o v l w) _ e)
+      step (Refused fault position) e =
+          ap (λ (y : Evaluation). y .verdict) (refused-stopped fault position e)
+          ∙ sym (first-append-refused (stopTests t o v l w) _ fault position e)
+
+  -- By its number: below 25 a test stopped it, else it made the model.
+  pub low-stopped :
+      (fault : Fault) (position : ℕ) → evaluateOf t o v l w .verdict ≡ Refused fault position → faultNumber fault < 25 →
+      firstFault (stopTests t o v l w) ≡ Refused fault position
+  unfolding evaluated
+  low-stopped fault position e low = step (firstFault (stopTests t o v l w)) refl
+    where
+      step : (x : Verdict) → firstFault (stopTests t o v l w) ≡ x → firstFault (stopTests t o v l w) ≡ Refused fault position
+      step Accepted passed =
+          let high = model-number t (wellFoundedModel (bookOf t) o) fault position (sym (ap (λ (y : Evaluation). y .verdict) (passed-made passed)) ∙ e) in
+          absurd (omega arith)
+      step (Refused g q) stopped = stopped ∙ sym (ap (λ (y : Evaluation). y .verdict) (refused-stopped g q stopped)) ∙ e
+
+  pub high-made :
+      (numberOf (evaluateOf t o v l w .verdict) ≡ 0) ⊎ (24 < numberOf (evaluateOf t o v l w .verdict)) → evaluateOf t o v l w ≡ evaluated t o
+  unfolding stopTests
+  high-made number = step (firstFault (stopTests t o v l w)) refl
+    where
+      step : (x : Verdict) → firstFault (stopTests t o v l w) ≡ x → evaluateOf t o v l w ≡ evaluated t o
+      step Accepted passed = passed-made passed
+      step (Refused fault position) stopped =
+          let is = ap (λ (y : Evaluation). numberOf (y .verdict)) (refused-stopped fault position stopped) in
+          let low = refusal-number t o fault position _ stopped in
+          absurd (⊎-elim (λ none. refused-accepted (zero-accepted (Refused fault position) (sym is ∙ none))) (λ high. omega arith) number)
+
+-- ── The model and its verdict ──
+
+module _ (t : Tables) (o : List ℕ) where
+  pub accepted-good : firstFault (modelTests t (wellFoundedModel (bookOf t) o)) ≡ Accepted → Good t o
+  unfolding modelTests undecidedTest notHeld bookOf definitionOf
+  accepted-good e =
+      let none = accepted-absent (modelTests t (wellFoundedModel (bookOf t) o)) e in
+      record {
+        twoValued = record {
+          size = model-length (bookOf t) o;
+          held = λ a l. not-false _ (none _ (List·Memᴰ·head refl) .nowhere a l);
+        };
+        satisfied = absent-satisfies t _ (λ test m. none test (List·Memᴰ·tail m));
+      }
+
+  pub good-accepted : Good t o → firstFault (modelTests t (wellFoundedModel (bookOf t) o)) ≡ Accepted
+  unfolding modelTests undecidedTest notHeld bookOf definitionOf
+  good-accepted good =
+      absent-accepted _
+      (absent-more (record { nowhere = λ a l. ap not (good .twoValued .held a l) }) (satisfies-absent t _ (good .satisfied)))
+
+  -- The check accepts a good model with its stages.
+  pub good-checked :
+      Good t o → ((test : Test) → List·Memᴰ test (tableTests t) → Absent test) →
+      numberOf (checkOf t (wellFoundedModel (bookOf t) o) (stagesOf (bookOf t) o)) ≡ 0
+  unfolding stagesOf bookOf definitionOf
+  good-checked good tables =
+      accepted-exactly t (wellFoundedModel (bookOf t) o) (stagesOf (bookOf t) o) (record { tables = tables; slices = slices }) .1
+      (record { twoValued = good .twoValued; obeys = complete (bookOf t) o (good .twoValued); satisfies = good .satisfied })
+    where
+      slices : Absent (sliceTest (t .atoms) (length (wellFoundedModel (bookOf t) o) ∷ length (stagesOf (bookOf t) o) ∷ []))
+      slices =
+          slices-absent (t .atoms) _
+          (length-more (λ n. n ≡ t .atoms) (model-length (bookOf t) o) (length-more (λ n. n ≡ t .atoms) (length-tabulate _ _) (length-none (λ n. n ≡ t .atoms))))

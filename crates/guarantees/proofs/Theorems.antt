@@ -1,0 +1,171 @@
+-- What the check and the maker promise: statements about `checkOf` and `evaluateOf`, the definitions that the contracts
+-- of `check` and of the maker cite, for every content. The longer proofs are in `Making`.
+-- Assumes nothing.
+use Prim.Native.Nat.{ℕ, _<_}
+use mathlib.Core.Path.{_≡_, refl, sym, ap, _∙_}
+use mathlib.Core.Logic.{_↔_, _⊎_}
+use mathlib.Core.Bool.{true, false}
+use mathlib.Core.List.{List, [], _∷_, _++_}
+use native.Mathlib.Omega.{arith}
+use lib.ListN.{length}
+use Rattle.wellfounded.specs.Literals.{isHeld, valueAt}
+use Rattle.wellfounded.specs.Stages.{wellFoundedModel, SameSetting}
+use Rattle.wellfounded.proofs.Definitions.{open-below}
+use Rattle.tables.specs.declared.Fault.{Fault}
+use Rattle.tables.specs.declared.Fault.the-variants.{Undecided}
+use Rattle.tables.specs.declared.Verdict.{Verdict}
+use Rattle.tables.specs.declared.Verdict.the-variants.{Accepted, Refused}
+use Rattle.tables.specs.Faults.{firstFault, numberOf, positionOf, faultNumber, RefusedBy}
+use Rattle.tables.specs.Sound.{Tables, bookOf, Sound}
+use Rattle.tables.proofs.Faults.{refused-by, by-refused}
+use Rattle.tables.proofs.Numbers.{zero-accepted, number-refused}
+use Rattle.checker.specs.Check.{checkOf}
+use Rattle.checker.proofs.Theorems
+use Rattle.evaluator.specs.Evaluate.{modelTests, Evaluation, evaluated, evaluateOf, Answers}
+use Rattle.guarantees.specs.Settings.{Setting, LentSetting, stopTests, Good, Made, Unwritten, MadeAndChecked}
+use Rattle.guarantees.proofs.Making.{undecided-at, lent-passes, passed-made, refused-stopped, verdict-is, low-stopped, high-made}
+use Rattle.guarantees.proofs.Making.{accepted-good, good-accepted, good-checked}
+
+-- ── Demand 3, of accepted claims ──
+
+module _ (t : Tables) (values levels : List ℕ) (accepted : numberOf (checkOf t values levels) ≡ 0) where
+  -- An accepted claim has a setting: its open facts hold only 0 and 1.
+  pub accepted-setting : Setting (bookOf t) values
+  accepted-setting = record { given = λ a h. Theorems.accepted-right t values levels accepted .twoValued .held a (open-below (bookOf t) a h) }
+
+  -- For every setting that it has, its values are those of the well-founded model,
+  pub accepted-model : (o : List ℕ) → SameSetting (bookOf t) o values → wellFoundedModel (bookOf t) o ≡ values
+  accepted-model = Theorems.accepted-model t values levels accepted
+
+  -- and that model is two-valued and satisfies all clauses and load lines.
+  pub accepted-is-good : (o : List ℕ) → SameSetting (bookOf t) o values → Good t o
+  accepted-is-good o has =
+      record {
+        twoValued = Theorems.accepted-two-valued t values levels accepted o has;
+        satisfied = Theorems.accepted-satisfied t values levels accepted o has;
+      }
+
+-- Two accepted claims on one book that agree on the open facts agree everywhere, whatever their levels.
+pub accepted-agree :
+    (t : Tables) (v l w m : List ℕ) → numberOf (checkOf t v l) ≡ 0 → numberOf (checkOf t w m) ≡ 0 →
+    SameSetting (bookOf t) v w → v ≡ w
+accepted-agree = Theorems.accepted-unique
+
+-- Where the model for a setting is not two-valued, or fails a clause or load line, every claim with that setting is refused,
+-- whatever its other values and its levels, and whether or not the tables are sound.
+pub others-refused :
+    (t : Tables) (o values levels : List ℕ) → (Good t o → ⊥) → SameSetting (bookOf t) o values →
+    numberOf (checkOf t values levels) ≡ 0 → ⊥
+others-refused t o values levels bad has accepted = bad (accepted-is-good t values levels accepted o has)
+
+-- ── The maker on sound tables, lent a setting o, whatever values v, levels l and work w hold on entry ──
+
+module _ (t : Tables) (o v l w : List ℕ) (sound : Sound t (length o ∷ length v ∷ length l ∷ length w ∷ [])) (lent : LentSetting (bookOf t) o) where
+  is-evaluated : evaluateOf t o v l w ≡ evaluated t o
+  is-evaluated = passed-made t o v l w (lent-passes t o lent v l w sound)
+
+  -- Demand 2: it writes the well-founded model with its stages, sets work to 0, and answers the closure number,
+  pub made : Made t o (evaluateOf t o v l w)
+  unfolding evaluated
+  made = rw is-evaluated (record { values = refl; levels = refl; work = refl; rounds = refl })
+
+  -- with the verdict of the model's faults 25, 26 and 27, the lowest number first.
+  pub model-verdict : evaluateOf t o v l w .verdict ≡ firstFault (modelTests t (wellFoundedModel (bookOf t) o))
+  unfolding evaluated
+  model-verdict = ap (λ (e : Evaluation). e .verdict) is-evaluated
+
+  -- Refused with one of them at a position exactly if its test fails there, at no lower position, and none before it occurs.
+  pub model-refused-exactly :
+      (fault : Fault) (position : ℕ) →
+      ((numberOf (evaluateOf t o v l w .verdict) ≡ faultNumber fault) × (positionOf (evaluateOf t o v l w .verdict) ≡ position))
+      ↔ RefusedBy (modelTests t (wellFoundedModel (bookOf t) o)) fault position
+  model-refused-exactly fault position = (
+    λ h. refused-by _ fault position (sym model-verdict ∙ number-refused _ fault position (h .0) (h .1)),
+    λ r. let e = model-verdict ∙ by-refused _ fault position r in (ap numberOf e, ap positionOf e),
+  )
+
+  -- 25 exactly if the last stage lacks an atom, at the lowest such.
+  pub undecided-exactly :
+      (p : ℕ) →
+      ((numberOf (evaluateOf t o v l w .verdict) ≡ faultNumber Undecided) × (positionOf (evaluateOf t o v l w .verdict) ≡ p)) ↔
+      ((p < t .atoms) × (isHeld (valueAt (wellFoundedModel (bookOf t) o) p) ≡ false) ×
+      ((a : ℕ) → a < p → isHeld (valueAt (wellFoundedModel (bookOf t) o) a) ≡ true))
+  undecided-exactly p = (
+    λ h. undecided-at t _ p .0 (sym model-verdict ∙ number-refused _ Undecided p (h .0) (h .1)),
+    λ h. let e = model-verdict ∙ undecided-at t _ p .1 h in (ap numberOf e, ap positionOf e),
+  )
+
+  -- Demand 3: it answers 0 exactly if the model for the setting is two-valued and satisfies all clauses and load lines,
+  pub maker-exactly : (numberOf (evaluateOf t o v l w .verdict) ≡ 0) ↔ Good t o
+  maker-exactly = (
+    λ zero. accepted-good t o (sym model-verdict ∙ zero-accepted _ zero),
+    λ good. ap numberOf (model-verdict ∙ good-accepted t o good),
+  )
+
+  -- and exactly then the check accepts the maker's claim.
+  pub made-claim-exactly : (numberOf (checkOf t (evaluateOf t o v l w .values) (evaluateOf t o v l w .levels)) ≡ 0) ↔ Good t o
+  unfolding evaluated
+  made-claim-exactly =
+      rw is-evaluated (
+        λ zero. let right = Theorems.accepted-right t _ _ zero in record { twoValued = right .twoValued; satisfied = right .satisfies },
+        λ good. good-checked t o good (sound .tables),
+      )
+
+-- ── Demand 2, of the maker on any content ──
+
+module _ (t : Tables) (o v l w : List ℕ) where
+  -- Its number and spot: refused with a fault at a position exactly if that fault's test fails there, at no lower
+  -- position, and no fault earlier in the list occurs: those that stop it, and then the model's.
+  pub maker-refused-exactly :
+      (fault : Fault) (position : ℕ) →
+      ((numberOf (evaluateOf t o v l w .verdict) ≡ faultNumber fault) × (positionOf (evaluateOf t o v l w .verdict) ≡ position))
+      ↔ RefusedBy (stopTests t o v l w ++ modelTests t (wellFoundedModel (bookOf t) o)) fault position
+  maker-refused-exactly fault position = (
+    λ h. refused-by _ fault position (sym (verdict-is t o v l w) ∙ number-refused _ fault position (h .0) (h .1)),
+    λ r. let e = verdict-is t o v l w ∙ by-refused _ fault position r in (ap numberOf e, ap positionOf e),
+  )
+
+  -- A fault of 11 to 17 or 21 is answered, nothing is written and rounds is 0,
+  pub stopped :
+      (fault : Fault) (position : ℕ) → firstFault (stopTests t o v l w) ≡ Refused fault position →
+      (evaluateOf t o v l w .verdict ≡ Refused fault position) × Unwritten v l w (evaluateOf t o v l w)
+  stopped fault position e =
+      rw (refused-stopped t o v l w fault position e) (refl, record { values = refl; levels = refl; work = refl; rounds = refl })
+
+  -- and a number below 25 is answered only for such a fault.
+  pub maker-stops-exactly :
+      (fault : Fault) (position : ℕ) → faultNumber fault < 25 →
+      ((numberOf (evaluateOf t o v l w .verdict) ≡ faultNumber fault) × (positionOf (evaluateOf t o v l w .verdict) ≡ position))
+      ↔ RefusedBy (stopTests t o v l w) fault position
+  maker-stops-exactly fault position low = (
+    λ h. refused-by _ fault position (low-stopped t o v l w fault position (number-refused _ fault position (h .0) (h .1)) low),
+    λ r. let e = stopped fault position (by-refused _ fault position r) .0 in (ap numberOf e, ap positionOf e),
+  )
+
+  -- For 0, 25, 26 and 27 the model is written with its stages,
+  pub writes : (numberOf (evaluateOf t o v l w .verdict) ≡ 0) ⊎ (24 < numberOf (evaluateOf t o v l w .verdict)) → Made t o (evaluateOf t o v l w)
+  unfolding evaluated
+  writes number = rw (high-made t o v l w number) (record { values = refl; levels = refl; work = refl; rounds = refl })
+
+  -- and for every other number nothing is written and rounds is 0.
+  pub leaves : 0 < numberOf (evaluateOf t o v l w .verdict) → numberOf (evaluateOf t o v l w .verdict) < 25 → Unwritten v l w (evaluateOf t o v l w)
+  leaves some low = step (evaluateOf t o v l w .verdict) refl
+    where
+      step : (x : Verdict) → evaluateOf t o v l w .verdict ≡ x → Unwritten v l w (evaluateOf t o v l w)
+      step Accepted e = let zero = ap numberOf e in absurd (omega arith)
+      step (Refused fault position) e =
+          let number = ap numberOf e in
+          stopped fault position (low-stopped t o v l w fault position e (omega arith)) .1
+
+-- The two calls in turn keep all of this: the contract of `evaluate_and_check`.
+pub made-and-checked :
+    (t : Tables) (o v l w : List ℕ) (made : Verdict) (rounds : ℕ) (checked : Verdict) (values levels work : List ℕ) →
+    Answers (evaluateOf t o v l w) made rounds values levels work → checked ≡ checkOf t values levels →
+    MadeAndChecked t o v l w made rounds checked values levels work
+made-and-checked t o v l w made rounds checked values levels work answers check =
+    record {
+      evaluation = answers;
+      check = check;
+      makesExactly = λ sound lent. rw (answers .verdictIs) (maker-exactly t o v l w sound lent);
+      acceptsExactly = λ sound lent. rw (check, answers .valuesIs, answers .levelsIs) (made-claim-exactly t o v l w sound lent);
+    }

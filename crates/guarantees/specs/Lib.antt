@@ -1,0 +1,2 @@
+-- The words of the guarantees.
+pub mod Settings
