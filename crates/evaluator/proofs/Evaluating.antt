@@ -88,8 +88,8 @@ pub record Prepared (t : Tables) (setting values levels work : List ℕ) : Type 
   pub settingLong : length setting ≡ t .atoms
   pub sound : Lent t values levels work
   pub leaves :
-    evaluateOf t setting values levels work
-    ≡ stoppedOr (firstFault (settingTest (bookOf t) setting ∷ [])) values levels work (evaluated t setting)
+      evaluateOf t setting values levels work
+      ≡ stoppedOr (firstFault (settingTest (bookOf t) setting ∷ [])) values levels work (evaluated t setting)
 
 module _ (t : Tables) (setting values levels work : List ℕ) where
   abbrev pub lengths : List ℕ

@@ -72,7 +72,7 @@ pub record AtStage (rules literals setting : List ℕ) (k : ℕ) (defined negate
   pub rows : RulesScannable rules literals (length setting)
   pub definedRoom : length defined ≡ maxAtoms
   pub definedTells :
-    (atom : ℕ) → atom < length setting → isMarked defined atom ≡ isDefined (definitionOf (length setting) rules literals) atom
+      (atom : ℕ) → atom < length setting → isMarked defined atom ≡ isDefined (definitionOf (length setting) rules literals) atom
   pub negatedTells : negated ≡ markWhere (occursNegated literals) (replicate maxAtoms 0)
   pub foundedRoom : length founded ≡ maxAtoms
   pub foundedTells : Founded (definitionOf (length setting) rules literals) (stage (definitionOf (length setting) rules literals) setting k) founded
@@ -80,8 +80,8 @@ pub record AtStage (rules literals setting : List ℕ) (k : ℕ) (defined negate
   pub atLevels : levels ≡ levelsAfter (definitionOf (length setting) rules literals) setting k
   pub atWork : work ≡ replicate (length setting) 0
   pub moved :
-    (j : ℕ) → j < k →
-    stage (definitionOf (length setting) rules literals) setting (suc j) ≡ stage (definitionOf (length setting) rules literals) setting j → ⊥
+      (j : ℕ) → j < k →
+      stage (definitionOf (length setting) rules literals) setting (suc j) ≡ stage (definitionOf (length setting) rules literals) setting j → ⊥
 
 -- What a round needs of its slices to stay within them.
 pub record Roomy (rules literals defined negated founded values levels work : List ℕ) : Type 0 where
@@ -98,7 +98,7 @@ pub record Started (rules literals defined setting values levels work : List ℕ
   pub rows : RulesScannable rules literals (length setting)
   pub definedRoom : length defined ≡ maxAtoms
   pub definedTells :
-    (atom : ℕ) → atom < length setting → isMarked defined atom ≡ isDefined (definitionOf (length setting) rules literals) atom
+      (atom : ℕ) → atom < length setting → isMarked defined atom ≡ isDefined (definitionOf (length setting) rules literals) atom
   pub valuesLong : length values ≡ length setting
   pub levelsLong : length levels ≡ length setting
   pub workLong : length work ≡ length setting
@@ -107,9 +107,9 @@ pub record Started (rules literals defined setting values levels work : List ℕ
 pub record RoundDone (rules literals setting : List ℕ) (k : ℕ) (defined negated founded values levels work : List ℕ) (again : Bool) : Type 0 where
   pub next : again ≡ true → AtStage rules literals setting (suc k) defined negated founded values levels work
   pub last :
-    again ≡ false →
-    AtStage rules literals setting k defined negated founded values levels work ×
-    (stage (definitionOf (length setting) rules literals) setting (suc k) ≡ stage (definitionOf (length setting) rules literals) setting k)
+      again ≡ false →
+      AtStage rules literals setting k defined negated founded values levels work ×
+      (stage (definitionOf (length setting) rules literals) setting (suc k) ≡ stage (definitionOf (length setting) rules literals) setting k)
 
 -- All rounds are done.
 pub record RoundsDone (rules literals setting values levels work : List ℕ) (rounds : ℕ) : Type 0 where

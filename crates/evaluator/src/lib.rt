@@ -9,20 +9,20 @@ ghost use Rattle.tables.specs.Sound.{lent, bookOf};
 ghost use Rattle.tables.specs.Satisfied.{ClausesScannable, LoadsScannable, clauseTest, loadTest};
 ghost use Rattle.evaluator.specs.Evaluate.{undecidedTest, settingTest, evaluated, stoppedOr, evaluateOf, Answers, Lent};
 
-pub mod setting;
 pub mod founding;
 pub mod rounds;
+pub mod setting;
 pub mod stages;
 
 use setting::bad_setting;
 use stages::evaluate_stages;
+use tables::Fault;
+use tables::Found;
+use tables::Verdict;
 use tables::marks::mark_heads;
 use tables::satisfaction::satisfaction_fault;
 use tables::sizes::table_fault;
 use tables::values::not_held_atom;
-use tables::Fault;
-use tables::Found;
-use tables::Verdict;
 
 // The verdict, and the number of rounds: 0 where nothing was evaluated.
 pub struct Answer {
@@ -31,15 +31,20 @@ pub struct Answer {
 }
 
 // The first fault of the model: an undecided atom, or else a failing clause or load line.
-fn model_fault(clauses: &[u16], literals: &[u16], loads: &[i32], load_literals: &[u16], minutes: &[i16], values: &[u8]) -> Verdict
+fn model_fault(
+    clauses: &[u16],
+    literals: &[u16],
+    loads: &[i32],
+    load_literals: &[u16],
+    minutes: &[i16],
+    values: &[u8],
+) -> Verdict
     requires { ⌜ ClausesScannable (now clauses) (now literals) (length (now values)) ⌝ }
     requires { ⌜ LoadsScannable (now loads) (now «load_literals») (now minutes) (length (now values)) ⌝ }
-    ensures {
-        λ r. ⌜ r ≡ firstFault
-            (undecidedTest (length (now (values .entry))) (now (values .entry))
-            ∷ clauseTest (now (clauses .entry)) (now (literals .entry)) (now (values .entry))
-            ∷ loadTest (now (loads .entry)) (now («load_literals» .entry)) (now (minutes .entry)) (now (values .entry)) ∷ []) ⌝
-    }
+    ensures { λ r. ⌜ r ≡ firstFault
+        (undecidedTest (length (now (values .entry))) (now (values .entry))
+        ∷ clauseTest (now (clauses .entry)) (now (literals .entry)) (now (values .entry))
+        ∷ loadTest (now (loads .entry)) (now («load_literals» .entry)) (now (minutes .entry)) (now (values .entry)) ∷ []) ⌝ }
 {
     if let Found::At(atom) = not_held_atom(values) {
         return Verdict::Refused(Fault::Undecided, atom);
@@ -67,21 +72,17 @@ fn evaluate_lent(
     levels: &mut [u16],
     work: &mut [u16],
 ) -> Answer
-    requires {
-        ⌜ Lent (lent (length (now setting)) (now rules) (now literals) (now clauses) (now loads) (now «load_literals») (now minutes))
-            (now values) (now levels) (now work) ⌝
-    }
-    ensures {
-        λ r. ⌜ Answers
-            (stoppedOr
-            (firstFault
-            (settingTest (bookOf (lent (length (now (setting .entry))) (now (rules .entry)) (now (literals .entry)) (now (clauses .entry)) (now (loads .entry))
-            (now («load_literals» .entry)) (now (minutes .entry)))) (now (setting .entry)) ∷ []))
-            (now (values .entry)) (now (levels .entry)) (now (work .entry))
-            (evaluated (lent (length (now (setting .entry))) (now (rules .entry)) (now (literals .entry)) (now (clauses .entry)) (now (loads .entry))
-            (now («load_literals» .entry)) (now (minutes .entry))) (now (setting .entry))))
-            (r .verdict) (r .rounds) (now (values .exit)) (now (levels .exit)) (now (work .exit)) ⌝
-    }
+    requires { ⌜ Lent (lent (length (now setting)) (now rules) (now literals) (now clauses) (now loads) (now «load_literals») (now minutes))
+        (now values) (now levels) (now work) ⌝ }
+    ensures { λ r. ⌜ Answers
+        (stoppedOr
+        (firstFault
+        (settingTest (bookOf (lent (length (now (setting .entry))) (now (rules .entry)) (now (literals .entry)) (now (clauses .entry)) (now (loads .entry))
+        (now («load_literals» .entry)) (now (minutes .entry)))) (now (setting .entry)) ∷ []))
+        (now (values .entry)) (now (levels .entry)) (now (work .entry))
+        (evaluated (lent (length (now (setting .entry))) (now (rules .entry)) (now (literals .entry)) (now (clauses .entry)) (now (loads .entry))
+        (now («load_literals» .entry)) (now (minutes .entry))) (now (setting .entry))))
+        (r .verdict) (r .rounds) (now (values .exit)) (now (levels .exit)) (now (work .exit)) ⌝ }
 {
     let mut defined = [0u8; 1024];
     mark_heads(rules, &mut defined);
@@ -111,23 +112,46 @@ pub fn evaluate(
     levels: &mut [u16],
     work: &mut [u16],
 ) -> Answer
-    ensures {
-        λ r. ⌜ Answers
-            (evaluateOf (lent atoms (now (rules .entry)) (now (literals .entry)) (now (clauses .entry)) (now (loads .entry))
-            (now («load_literals» .entry)) (now (minutes .entry)))
-            (now («open_values» .entry)) (now (values .entry)) (now (levels .entry)) (now (work .entry)))
-            (r .verdict) (r .rounds) (now (values .exit)) (now (levels .exit)) (now (work .exit)) ⌝
-    }
+    ensures { λ r. ⌜ Answers
+        (evaluateOf (lent atoms (now (rules .entry)) (now (literals .entry)) (now (clauses .entry)) (now (loads .entry))
+        (now («load_literals» .entry)) (now (minutes .entry)))
+        (now («open_values» .entry)) (now (values .entry)) (now (levels .entry)) (now (work .entry)))
+        (r .verdict) (r .rounds) (now (values .exit)) (now (levels .exit)) (now (work .exit)) ⌝ }
 {
-    let verdict = table_fault(atoms, rules, literals, clauses, loads, load_literals, minutes);
+    let verdict = table_fault(
+        atoms,
+        rules,
+        literals,
+        clauses,
+        loads,
+        load_literals,
+        minutes,
+    );
     if let Verdict::Refused(_, _) = verdict {
         return Answer { verdict, rounds: 0 };
     }
-    if !lengths_fit(atoms, open_values.len(), values.len(), levels.len(), work.len()) {
+    if !lengths_fit(
+        atoms,
+        open_values.len(),
+        values.len(),
+        levels.len(),
+        work.len(),
+    ) {
         return Answer {
             verdict: Verdict::Refused(Fault::SliceLength, 0),
             rounds: 0,
         };
     }
-    evaluate_lent(rules, literals, clauses, loads, load_literals, minutes, open_values, values, levels, work)
+    evaluate_lent(
+        rules,
+        literals,
+        clauses,
+        loads,
+        load_literals,
+        minutes,
+        open_values,
+        values,
+        levels,
+        work,
+    )
 }

@@ -2,7 +2,6 @@
 ghost use lib.ListN.{length};
 ghost use Rattle.tables.specs.Sound.{lent};
 ghost use Rattle.guarantees.specs.Settings.{MadeAndChecked};
-
 use checker::check;
 use evaluator::evaluate;
 use tables::Verdict;
@@ -29,17 +28,41 @@ pub fn evaluate_and_check(
     levels: &mut [u16],
     work: &mut [u16],
 ) -> Checked
-    ensures {
-        λ r. ⌜ MadeAndChecked
-            (lent atoms (now (rules .entry)) (now (literals .entry)) (now (clauses .entry)) (now (loads .entry)) (now («load_literals» .entry))
-            (now (minutes .entry)))
-            (now («open_values» .entry)) (now (values .entry)) (now (levels .entry)) (now (work .entry))
-            (r .made) (r .rounds) (r .checked) (now (values .exit)) (now (levels .exit)) (now (work .exit)) ⌝
-    }
+    ensures { λ r. ⌜ MadeAndChecked
+        (lent atoms (now (rules .entry)) (now (literals .entry)) (now (clauses .entry)) (now (loads .entry)) (now («load_literals» .entry))
+        (now (minutes .entry)))
+        (now («open_values» .entry)) (now (values .entry)) (now (levels .entry)) (now (work .entry))
+        (r .made) (r .rounds) (r .checked) (now (values .exit)) (now (levels .exit)) (now (work .exit)) ⌝ }
 {
-    let answer = evaluate(atoms, rules, literals, clauses, loads, load_literals, minutes, open_values, values, levels, work);
-    let checked = check(atoms, rules, literals, clauses, loads, load_literals, minutes, values, levels);
+    let answer = evaluate(
+        atoms,
+        rules,
+        literals,
+        clauses,
+        loads,
+        load_literals,
+        minutes,
+        open_values,
+        values,
+        levels,
+        work,
+    );
+    let checked = check(
+        atoms,
+        rules,
+        literals,
+        clauses,
+        loads,
+        load_literals,
+        minutes,
+        values,
+        levels,
+    );
     let made = answer.verdict;
     let rounds = answer.rounds;
-    Checked { made, rounds, checked }
+    Checked {
+        made,
+        rounds,
+        checked,
+    }
 }

@@ -5,10 +5,10 @@ ghost use Rattle.tables.specs.Faults.{faultNumber, numberOf, positionOf}
 pub mod clauses;
 pub mod loads;
 pub mod marks;
-pub mod values;
 pub mod rows;
 pub mod satisfaction;
 pub mod sizes;
+pub mod values;
 
 // Where a search found what it looks for.
 pub enum Found {

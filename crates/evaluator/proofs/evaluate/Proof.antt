@@ -51,7 +51,6 @@ returns-3 : tie.Need-returns-3
 returns-3 c =
     moved-answer _ _ _ _ _ _ _ _ _ _ _ (ready (c .before .before .before .before .before .before .before .before .before .before)) _ _ _ _ _ (c .before .before .before .before .before .before .evaluate-lent .ensures)
 
-
 pub evaluate-spec : {M : Type 1} → statement M
 evaluate-spec =
     tie.close
