@@ -16,6 +16,10 @@ use Rattle.tables.specs.Sound.{Tables, bookOf, tableTests, sliceTest}
 use Rattle.tables.specs.Marks.{notHeld}
 use Rattle.tables.specs.Satisfied.{Satisfies, satisfactionTests}
 
+-- 21: a value that is not 0 or 1.
+unfoldable pub valueTest : ℕ → List ℕ → Test
+valueTest atoms values = record { fault = Value; positions = atoms; bad = notHeld values }
+
 -- 22: a level that is not 0 at an open atom, or outside 1 to D at a defined one.
 unfoldable pub badLevel : Definition → List ℕ → ℕ → Bool
 badLevel d levels atom = not (levelInRange d levels atom)
@@ -29,10 +33,6 @@ unfoldable pub unblocked : Definition → List ℕ → List ℕ → List ℕ →
 unblocked d rules literals values levels row =
     isFalse (valueAt values (ruleHead rules row))
     && not (any (blocks d values levels (ruleHead rules row)) (ruleBody rules literals row))
-
--- 21: a value that is not 0 or 1.
-unfoldable pub valueTest : ℕ → List ℕ → Test
-valueTest atoms values = record { fault = Value; positions = atoms; bad = notHeld values }
 
 unfoldable pub levelTest : Definition → List ℕ → Test
 levelTest d levels = record { fault = Level; positions = d .size; bad = badLevel d levels }

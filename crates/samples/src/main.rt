@@ -2,6 +2,7 @@
 use claims::run_claims;
 use evaluated::run_evaluations;
 
+mod bad_input;
 mod chains;
 mod claims;
 mod evaluated;
@@ -10,5 +11,6 @@ mod shown;
 fn main() {
     run_claims();
     run_evaluations();
+    bad_input::run_bad_input();
     chains::run_chains();
 }
