@@ -44,6 +44,7 @@ pub enum Verdict {
     Refused(Fault, usize),
 }
 
+// The paper's number of a fault.
 pub fn fault_number(fault: Fault) -> usize
     ensures { λ r. ⌜ r ≡ faultNumber fault ⌝ }
 {

@@ -1,0 +1,3 @@
+// The text of a book, read byte by byte.
+pub mod bytes;
+pub mod numbers;
