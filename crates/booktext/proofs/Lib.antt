@@ -1,9 +1,11 @@
--- The reader's view of a line and the printer are inverse: `Lines` and `Texts` state it. `ByteLaws` and `OffsetLaws` serve the code; the other files prove what `Lines` and `Texts` say.
+-- The reader's view of a line and the printer are inverse: `Lines` and `Texts` state it. `ByteLaws`, `OffsetLaws`, `SignedLaws` and `WordLaws` serve the code; the other files prove what `Lines` and `Texts` say.
 pub mod Lines
 pub mod Texts
 pub mod Readings
 pub mod Decimals
 pub mod ByteLaws
 pub mod OffsetLaws
+pub mod SignedLaws
+pub mod WordLaws
 pub mod Pieces
 pub mod Parts

@@ -1,11 +1,16 @@
 -- Numbers read at an offset of a text, with the offset after them.
-use Prim.Native.Nat.{ℕ, _-_, min}
-use mathlib.Core.Bool.{Bool}
-use mathlib.Core.List.{List}
+use Prim.Native.Nat.{ℕ, suc, _-_, min}
+use mathlib.Core.Bool.{Bool, false}
+use mathlib.Core.List.{List, [], _∷_}
 use lib.ListN.{length, drop}
+use lib.Dec.{eqb}
+use lib.IntN.{ℤ, pos, negsuc, negℤ}
 use Rattle.booktext.specs.declared.numbers.Number.{Number}
 use Rattle.booktext.specs.declared.numbers.Number.the-variants.{Read, Refused}
-use Rattle.booktext.specs.Parse.{Reading, got, refused, moreDigits, startsWithDigit, readNumber}
+use Rattle.booktext.specs.Parse.{Reading, got, refused, moreDigits, startsWithDigit, readNumber, readSigned}
+use Rattle.booktext.specs.Forms.{minus}
+use Rattle.booktext.specs.declared.signed.Signed.{Signed}
+use Rattle.booktext.specs.declared.signed.Signed.the-variants.{Whole, Malformed}
 
 -- A number of any length has a value here that stops growing beyond every limit of the format.
 abbrev pub beyondLimits : ℕ
@@ -30,3 +35,23 @@ digitsAt text at n = answered text (moreDigits n (drop at text))
 -- The number at an offset.
 unfoldable pub numberAt : List ℕ → ℕ → Number
 numberAt text at = answered text (readNumber (drop at text))
+
+-- Whether a minus stands at an offset.
+unfoldable pub startsWithMinus : List ℕ → Bool
+startsWithMinus [] = false
+startsWithMinus (b ∷ bs) = eqb b minus
+
+unfoldable pub minusAt : List ℕ → ℕ → Bool
+minusAt text at = startsWithMinus (drop at text)
+
+-- The signed number at an offset; its value stops growing on both sides.
+unfoldable pub clamped : ℤ → ℤ
+clamped (pos n) = pos (capped n)
+clamped (negsuc n) = negℤ (pos (capped (suc n)))
+
+unfoldable pub answeredSigned : List ℕ → Reading ℤ → Signed
+answeredSigned text (got z rest) = Whole (clamped z) (length text - length rest)
+answeredSigned text refused = Malformed
+
+unfoldable pub signedAt : List ℕ → ℕ → Signed
+signedAt text at = answeredSigned text (readSigned (drop at text))
