@@ -10,9 +10,9 @@ ghost use Rattle.tables.specs.Satisfied.{RulesScannable, ClausesScannable, Load
 ghost use Rattle.checker.specs.Check.{supportTest, blockingTest, levelTests, claimTests, checkOf};
 ghost use Rattle.checker.specs.Marks.{Readable, Levelled};
 
-pub mod blocking;
-pub mod levels;
-pub mod support;
+mod blocking;
+mod levels;
+mod support;
 
 use blocking::unblocked_row;
 use levels::bad_level;

@@ -9,10 +9,10 @@ ghost use Rattle.tables.specs.Sound.{lent, bookOf};
 ghost use Rattle.tables.specs.Satisfied.{ClausesScannable, LoadsScannable, clauseTest, loadTest};
 ghost use Rattle.evaluator.specs.Evaluate.{undecidedTest, settingTest, evaluated, stoppedOr, evaluateOf, Answers, Lent};
 
-pub mod founding;
-pub mod rounds;
-pub mod setting;
-pub mod stages;
+mod founding;
+mod rounds;
+mod setting;
+mod stages;
 
 use setting::bad_setting;
 use stages::evaluate_stages;

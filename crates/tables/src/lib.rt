@@ -2,8 +2,8 @@
 ghost use mathlib.Core.Path.{_≡_};
 ghost use Rattle.tables.specs.Faults.{faultNumber, numberOf, positionOf};
 
-pub mod clauses;
-pub mod loads;
+mod clauses;
+mod loads;
 pub mod marks;
 pub mod rows;
 pub mod satisfaction;
