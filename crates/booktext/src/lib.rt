@@ -1,5 +1,149 @@
-// The text of a book, read byte by byte.
-pub mod bytes;
-pub mod numbers;
-pub mod signed;
-pub mod words;
+// The reader of book texts.
+ghost use mathlib.Core.Path.{_≡_};
+ghost use Rattle.booktext.specs.declared.walk.Judged.the-variants.{Failed};
+ghost use Rattle.booktext.specs.Answers.{stateNumber, stateOf, answerOf, lentTables, Reads};
+
+mod forms;
+mod lists;
+mod reached;
+mod stores;
+mod walk;
+
+use reached::CLAIM_STOOD;
+use reached::OPEN_STOOD;
+use reached::Space;
+use tables::Fault;
+use tables::Verdict;
+use walk::Judged;
+use walk::judge;
+use walk::walk;
+
+// A longer text is refused before anything in it is read.
+const MAX_BYTES: usize = 65535;
+
+// Which state form a text ended with.
+pub enum StateForm {
+    NoState,
+    OpenState,
+    ClaimState,
+}
+
+// The verdict, N, the entries used in each table, and the state form.
+pub struct Book {
+    pub verdict: Verdict,
+    pub atoms: usize,
+    pub rules: usize,
+    pub literals: usize,
+    pub clauses: usize,
+    pub loads: usize,
+    pub terms: usize,
+    pub state: StateForm,
+}
+
+// The paper's number of a state form.
+pub fn state_number(state: StateForm) -> usize
+    ensures { λ r. ⌜ r ≡ stateNumber state ⌝ }
+{
+    match state {
+        StateForm::NoState => 0,
+        StateForm::OpenState => 1,
+        StateForm::ClaimState => 2,
+    }
+}
+
+// The answer for a refused text: nothing counted, no state form.
+fn refused_book(fault: Fault, position: usize) -> Book
+    ensures { λ r. ⌜ r ≡ answerOf (Failed fault position) ⌝ }
+{
+    Book {
+        verdict: Verdict::Refused(fault, position),
+        atoms: 0,
+        rules: 0,
+        literals: 0,
+        clauses: 0,
+        loads: 0,
+        terms: 0,
+        state: StateForm::NoState,
+    }
+}
+
+// The state form that a text has ended with.
+fn state_of(phase: usize) -> StateForm
+    ensures { λ r. ⌜ r ≡ stateOf phase ⌝ }
+{
+    if phase == OPEN_STOOD {
+        return StateForm::OpenState;
+    }
+    if phase == CLAIM_STOOD {
+        return StateForm::ClaimState;
+    }
+    StateForm::NoState
+}
+
+// The answer for what a text has come to.
+fn answer_of(judged: Judged) -> Book
+    ensures { λ r. ⌜ r ≡ answerOf judged ⌝ }
+{
+    match judged {
+        Judged::Failed(fault, position) => refused_book(fault, position),
+        Judged::Passed(reached) => Book {
+            verdict: Verdict::Accepted,
+            atoms: reached.size,
+            rules: reached.rules,
+            literals: reached.literals,
+            clauses: reached.clauses,
+            loads: reached.loads,
+            terms: reached.terms,
+            state: state_of(reached.phase),
+        },
+    }
+}
+
+// Reads a book from its text. The tables of an accepted text hold its entries, and beyond them what they held; a refused
+// text writes nothing.
+pub fn read(
+    text: &[u8],
+    rules: &mut [u16],
+    literals: &mut [u16],
+    clauses: &mut [u16],
+    loads: &mut [i32],
+    load_literals: &mut [u16],
+    minutes: &mut [i16],
+    values: &mut [u8],
+    levels: &mut [u16],
+) -> Book
+    ensures { λ r. ⌜ Reads (now (text .entry))
+        (lentTables (now (rules .entry)) (now (literals .entry)) (now (clauses .entry)) (now (loads .entry)) (now («load_literals» .entry))
+        (now (minutes .entry)) (now (values .entry)) (now (levels .entry))) r
+        (lentTables (now (rules .exit)) (now (literals .exit)) (now (clauses .exit)) (now (loads .exit)) (now («load_literals» .exit))
+        (now (minutes .exit)) (now (values .exit)) (now (levels .exit))) ⌝ }
+{
+    if MAX_BYTES < text.len() {
+        return refused_book(Fault::OutsideLimits, 0);
+    }
+    let space = Space {
+        rules: rules.len(),
+        literals: literals.len(),
+        clauses: clauses.len(),
+        loads: loads.len(),
+        load_literals: load_literals.len(),
+        minutes: minutes.len(),
+        values: values.len(),
+        levels: levels.len(),
+    };
+    if let Judged::Failed(fault, position) = judge(text, space) {
+        return refused_book(fault, position);
+    }
+    answer_of(walk(
+        text,
+        space,
+        rules,
+        literals,
+        clauses,
+        loads,
+        load_literals,
+        minutes,
+        values,
+        levels,
+    ))
+}

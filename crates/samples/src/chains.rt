@@ -1,11 +1,11 @@
 // Chains of 1,023 rounds over 1,024 atoms: each atom but the first has one rule, from the atom before it.
 ghost use Prim.Native.Nat.{_≤_};
-use super::shown::end_line;
-use super::shown::show_level;
-use super::shown::show_number;
-use super::shown::show_value;
-use super::shown::show_verdict;
 use evaluator::evaluate;
+use shown::end_line;
+use shown::show_level;
+use shown::show_number;
+use shown::show_value;
+use shown::show_verdict;
 
 // The atom that the rule of a row rests on.
 fn chain_atom(row: usize, falling: bool) -> u16

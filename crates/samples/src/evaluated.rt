@@ -1,27 +1,11 @@
 // Evaluations among the samples: the verdict, the rounds, and the values and levels that were made.
-use super::shown::end_line;
-use super::shown::show_level;
-use super::shown::show_number;
-use super::shown::show_value;
-use super::shown::show_verdict;
 use evaluator::Answer;
 use evaluator::evaluate;
-
-fn show_values(values: &[u8]) {
-    let mut atom = 0;
-    while atom < values.len() {
-        show_value(b" ", values[atom]);
-        atom += 1;
-    }
-}
-
-fn show_levels(levels: &[u16]) {
-    let mut atom = 0;
-    while atom < levels.len() {
-        show_level(b" ", levels[atom]);
-        atom += 1;
-    }
-}
+use shown::end_line;
+use shown::show_levels;
+use shown::show_number;
+use shown::show_values;
+use shown::show_verdict;
 
 fn show(name: &[u8], answer: Answer, values: &[u8], levels: &[u16]) {
     let verdict = answer.verdict;

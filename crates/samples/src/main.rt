@@ -6,7 +6,6 @@ mod bad_input;
 mod chains;
 mod claims;
 mod evaluated;
-mod shown;
 
 fn main() {
     run_claims();

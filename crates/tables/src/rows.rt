@@ -24,7 +24,7 @@ pub const LOAD_WIDTH: usize = 4;
 
 const MAX_MINUTES: i16 = 1440;
 
-const MAX_BOUND: i32 = 1_000_000;
+pub const MAX_BOUND: i32 = 1_000_000;
 
 // An entry of a table, as an index.
 pub fn entry(table: &[u16], place: usize) -> usize

@@ -14,17 +14,17 @@ use super::rows::bad_load_row;
 use super::rows::bad_rule_row;
 use super::rows::bad_term;
 
-const MAX_ATOMS: usize = 1024;
+pub const MAX_ATOMS: usize = 1024;
 
-const MAX_RULE_ENTRIES: usize = 6144;
+pub const MAX_RULE_ENTRIES: usize = 6144;
 
-const MAX_CLAUSE_ENTRIES: usize = 4096;
+pub const MAX_CLAUSE_ENTRIES: usize = 4096;
 
-const MAX_LITERALS: usize = 16384;
+pub const MAX_LITERALS: usize = 16384;
 
-const MAX_LOAD_ENTRIES: usize = 256;
+pub const MAX_LOAD_ENTRIES: usize = 256;
 
-const MAX_TERMS: usize = 4096;
+pub const MAX_TERMS: usize = 4096;
 
 // The number of atoms and the tables' lengths are within their limits, with whole rows and as many minutes as load literals.
 fn sizes_fit(

@@ -1,0 +1,57 @@
+-- Laws of reading: how the judgement of a text and the walk over it make the answer, and what they leave in the tables.
+-- Assumes nothing.
+use Prim.Native.Nat.{ℕ, _≤_, _<_}
+use mathlib.Core.Path.{_≡_, sym, ap, _∙_}
+use mathlib.Core.List.{List}
+use lib.ListN.{length}
+use borrow.Author.Tests.{le-leb, lt-leb}
+use Rattle.tables.specs.declared.Fault.{Fault}
+use Rattle.tables.specs.declared.Fault.the-variants.{OutsideLimits}
+use Rattle.booktext.specs.declared.Book.{Book}
+use Rattle.booktext.specs.declared.reached.Reached.{Reached}
+use Rattle.booktext.specs.declared.walk.Judged.{Judged}
+use Rattle.booktext.specs.declared.walk.Judged.the-variants.{Passed, Failed}
+use Rattle.booktext.specs.States.{start}
+use Rattle.booktext.specs.Judging.{lines, judgeLines, judgeText, maxBytes}
+use Rattle.booktext.specs.Entries.{Contents, storeForms, bookEntries, filled}
+use Rattle.booktext.specs.Answers.{spaceOf, formsOf, answerOf, contentsAfter, Reads}
+use Rattle.booktext.specs.Shapes.{passes, Walked}
+use Rattle.booktext.proofs.Accepted.{accepted-book, book-passed}
+use Rattle.booktext.proofs.Filling.{stored-filled}
+
+module _ (text : List ℕ) (before : Contents) where
+  -- A text that is too long.
+  pub read-long : (answer : Book) → maxBytes < length text → answer ≡ answerOf (Failed OutsideLimits 0) → Reads text before answer before
+  unfolding judgeText contentsAfter
+  read-long answer l e = let long = lt-leb (length text) maxBytes l in record { answered = rw long e; written = rw long }
+
+  -- A text that is short enough is judged line by line.
+  module _ (short : length text ≤ maxBytes) where
+    judged-lines : judgeText (spaceOf before) text ≡ judgeLines (spaceOf before) start 0 (lines text)
+    unfolding judgeText
+    judged-lines = rw (le-leb (length text) maxBytes short)
+
+    pub read-refused :
+        (answer : Book) (j : Judged) (fault : Fault) (at : ℕ) → j ≡ judgeLines (spaceOf before) start 0 (lines text) → j ≡ Failed fault at →
+        answer ≡ answerOf (Failed fault at) → Reads text before answer before
+    unfolding contentsAfter
+    read-refused answer j fault at e f a =
+        let failed : judgeText (spaceOf before) text ≡ Failed fault at = judged-lines ∙ (sym e ∙ f) in
+        record { answered = rw failed a; written = rw failed }
+
+    -- The forms of an accepted text, stored one after the other, fill the tables.
+    filled-forms :
+        (t : Reached) → judgeText (spaceOf before) text ≡ Passed t →
+        storeForms start (formsOf text) before ≡ filled (bookEntries (formsOf text)) before
+    filled-forms t e =
+        let k = accepted-book (spaceOf before) text t e in
+        rw (k .3) (stored-filled (k .0) before (book-passed (spaceOf before) (k .0) (k .1 .book) .0 .passed))
+
+    pub read-filled :
+        (answer : Book) (i j : Judged) (t : Reached) (after : Contents) → i ≡ judgeLines (spaceOf before) start 0 (lines text) → i ≡ Passed t →
+        Walked text (spaceOf before) before j after → answer ≡ answerOf j → Reads text before answer after
+    unfolding passes contentsAfter
+    read-filled answer i j t after e f w a =
+        let passed : judgeText (spaceOf before) text ≡ Passed t = judged-lines ∙ (sym e ∙ f) in
+        let walked : j ≡ judgeText (spaceOf before) text = w .answered ∙ sym judged-lines in
+        record { answered = a ∙ ap answerOf walked; written = rw passed (w .laid (rw (walked, passed)) ∙ filled-forms t passed) }

@@ -1,0 +1,96 @@
+-- What the reader answers, and what it leaves in the lent tables.
+use Prim.Native.Nat.{ℕ}
+use mathlib.Core.Path.{_≡_}
+use mathlib.Core.Bool.{cond}
+use mathlib.Core.List.{List, [], _∷_}
+use lib.Dec.{eqb}
+use lib.IntN.{ℤ}
+use lib.ListN.{length}
+use Rattle.tables.specs.declared.Verdict.the-variants.{Accepted, Refused}
+use Rattle.format.specs.Forms.{Form}
+use Rattle.format.specs.Parse.{Reading, got, refused}
+use Rattle.booktext.specs.declared.StateForm.{StateForm}
+use Rattle.booktext.specs.declared.StateForm.the-variants.{NoState, OpenState, ClaimState}
+use Rattle.booktext.specs.declared.Book.{Book}
+use Rattle.booktext.specs.declared.reached.Reached.{Reached}
+use Rattle.booktext.specs.declared.reached.Space.{Space}
+use Rattle.booktext.specs.declared.walk.Judged.{Judged}
+use Rattle.booktext.specs.declared.walk.Judged.the-variants.{Passed, Failed}
+use Rattle.booktext.specs.Judging.{LineText, lines, formIn, judgeText}
+use Rattle.booktext.specs.States.{openStood, claimStood, start, after}
+use Rattle.booktext.specs.Entries.{Contents, bookEntries, filled}
+
+-- The lengths of the lent tables.
+unfoldable pub spaceOf : Contents → Space
+spaceOf held =
+    record {
+      rules = length (held .rules);
+      literals = length (held .literals);
+      clauses = length (held .clauses);
+      loads = length (held .loads);
+      «load_literals» = length (held .loadLiterals);
+      minutes = length (held .minutes);
+      values = length (held .values);
+      levels = length (held .levels);
+    }
+
+-- The forms of a text, line by line up to one that is no form. Of an accepted text these are all its lines.
+unfoldable pub consRead : Reached → Reading Form → (Reached → List Form) → List Form
+consRead s (got f rest) later = f ∷ later (after s f)
+consRead s refused later = []
+
+unfoldable pub formsFrom : Reached → List LineText → List Form
+formsFrom s [] = []
+formsFrom s (line ∷ more) = consRead s (formIn s line) (λ t. formsFrom t more)
+
+unfoldable pub formsOf : List ℕ → List Form
+formsOf text = formsFrom start (lines text)
+
+-- The state form that a text has ended with, and the paper's number of each.
+unfoldable pub stateOf : ℕ → StateForm
+stateOf phase = cond (eqb phase openStood) OpenState (cond (eqb phase claimStood) ClaimState NoState)
+
+abbrev pub stateNumber : StateForm → ℕ
+stateNumber NoState = 0
+stateNumber OpenState = 1
+stateNumber ClaimState = 2
+
+-- N and the entries used in each table, as single numbers. A refused text answers them as 0, and no state form.
+unfoldable pub answerOf : Judged → Book
+answerOf (Passed s) =
+    record {
+      verdict = Accepted;
+      atoms = s .size;
+      rules = s .rules;
+      literals = s .literals;
+      clauses = s .clauses;
+      loads = s .loads;
+      terms = s .terms;
+      state = stateOf (s .phase);
+    }
+answerOf (Failed fault at) =
+    record { verdict = Refused fault at; atoms = 0; rules = 0; literals = 0; clauses = 0; loads = 0; terms = 0; state = NoState }
+
+-- The tables of an accepted text are filled; a refused text writes nothing.
+unfoldable pub contentsAfter : Judged → List Form → Contents → Contents
+contentsAfter (Passed s) forms held = filled (bookEntries forms) held
+contentsAfter (Failed fault at) forms held = held
+
+-- The lent tables, at entry or at exit.
+unfoldable pub lentTables : List ℕ → List ℕ → List ℕ → List ℤ → List ℕ → List ℤ → List ℕ → List ℕ → Contents
+lentTables rules literals clauses loads loadLiterals minutes values levels =
+    record {
+      rules = rules;
+      literals = literals;
+      clauses = clauses;
+      loads = loads;
+      loadLiterals = loadLiterals;
+      minutes = minutes;
+      values = values;
+      levels = levels;
+    }
+
+-- What `read` promises of its answer and of the tables afterwards.
+pub record Reads (text : List ℕ) (before : Contents) (answer : Book) (afterwards : Contents) : Type 0 where
+  pub answered : answer ≡ answerOf (judgeText (spaceOf before) text)
+  pub written : afterwards ≡ contentsAfter (judgeText (spaceOf before) text) (formsOf text) before
