@@ -1,0 +1,2 @@
+-- Laws of the answers for C.
+pub mod PackLaws

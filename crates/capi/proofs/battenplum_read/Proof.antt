@@ -1,0 +1,79 @@
+-- `capi::battenplum_read` meets its contract: with seven places the text is read and its counts are told, and else nothing is done.
+-- Assumes nothing.
+use mathlib.Core.Path.{_≡_}
+use lib.ListN.{length}
+use borrow.Author.Needs.{needs}
+use Rattle.capi.proofs.PackLaws.{read-within, read-position, read-told, read-untold}
+use Rattle.capi.proofs.battenplum_read.Statement.{statement}
+use Rattle.capi.proofs.battenplum_read.Tie as tie
+
+-- The text was read, and before it there were seven places.
+abbrev was-read : tie.After-tell-arg → tie.After-read
+was-read c = c .before .before .before .before .before .before .before .before .before .before .before .before .before .before .before
+
+abbrev began : tie.After-read → tie.Start
+began c = c .before .before .before .before .before .before .before .before .before .before .before .before .before .before .before .before .before .before
+
+seven : (c : tie.After-read) → length (began c .args .answer .now) ≡ 7
+seven c = c .before .before .before .before .before .before .before .before .before .if1 .left
+
+returns : tie.Need-returns
+returns c = read-untold (c .if1 .taken)
+
+read-requires : tie.Need-read-requires
+read-requires c κs = search needs
+
+tell-requires : tie.Need-tell-requires
+tell-requires c κs = (seven (was-read c), read-within (was-read c .read .ensures))
+
+pack-requires : tie.Need-pack-requires
+pack-requires c κs = read-position (was-read (c .before .before .before) .read .ensures)
+
+same-length : tie.Need-same-length
+same-length c = search needs
+
+same-length-2 : tie.Need-same-length-2
+same-length-2 c = search needs
+
+same-length-3 : tie.Need-same-length-3
+same-length-3 c = search needs
+
+same-length-4 : tie.Need-same-length-4
+same-length-4 c = search needs
+
+same-length-5 : tie.Need-same-length-5
+same-length-5 c = search needs
+
+same-length-6 : tie.Need-same-length-6
+same-length-6 c = search needs
+
+same-length-7 : tie.Need-same-length-7
+same-length-7 c = search needs
+
+same-length-8 : tie.Need-same-length-8
+same-length-8 c = search needs
+
+same-length-9 : tie.Need-same-length-9
+same-length-9 c = search needs
+
+returns-2 : tie.Need-returns-2
+returns-2 c = read-told (seven (was-read (c .before .before .before .before))) (was-read (c .before .before .before .before) .read .ensures) (c .pack .ensures) (c .before .before .before .tell .ensures)
+
+pub battenplum-read-spec : {M : Type 1} → statement M
+battenplum-read-spec =
+    tie.close
+    (tie.spec
+    returns
+    read-requires
+    tell-requires
+    pack-requires
+    same-length
+    same-length-2
+    same-length-3
+    same-length-4
+    same-length-5
+    same-length-6
+    same-length-7
+    same-length-8
+    same-length-9
+    returns-2)

@@ -1,0 +1,2 @@
+-- What the C calls answer.
+pub mod Packing

@@ -1,0 +1,59 @@
+-- How the C calls pack their answers into one number.
+use Prim.Native.Nat.{ℕ, _+_, _*_, _≤_}
+use mathlib.Core.Path.{_≡_}
+use mathlib.Core.Bool.{Bool, cond}
+use mathlib.Core.List.{List, [], _∷_}
+use lib.Dec.{eqb}
+use lib.ListN.{length}
+use Rattle.tables.specs.declared.Verdict.{Verdict}
+use Rattle.tables.specs.Faults.{numberOf, positionOf}
+use Rattle.tables.specs.Limits.{maxAtoms, maxRuleRows, maxClauseRows, maxLiterals, maxLoadRows, maxTerms}
+use Rattle.tables.specs.Rows.{ruleWidth, clauseWidth}
+use Rattle.tables.specs.Loads.{loadWidth}
+use Rattle.booktext.specs.declared.Book.{Book}
+use Rattle.booktext.specs.Entries.{Contents}
+use Rattle.booktext.specs.Answers.{stateNumber, answerOf, spaceOf, contentsAfter, formsOf}
+use Rattle.booktext.specs.Judging.{judgeText}
+use Rattle.evaluator.specs.Evaluate.{Evaluation}
+
+-- The verdict's number × 65,536 + its position; 0 if accepted.
+unfoldable pub packed : Verdict → ℕ
+packed verdict = numberOf verdict * 65536 + positionOf verdict
+
+-- The rounds above it.
+unfoldable pub packedRounds : Verdict → ℕ → ℕ
+packedRounds verdict rounds = rounds * 4294967296 + packed verdict
+
+-- What the reader counted: N, the entries of rules, literals, clauses, loads and terms, and the number of the state form.
+unfoldable pub counted : Book → List ℕ
+counted book =
+    book .atoms ∷ book .rules ∷ book .literals ∷ book .clauses ∷ book .loads ∷ book .terms ∷ stateNumber (book .state) ∷ []
+
+-- The counts are within the limits of a book.
+pub record WithinBook (book : Book) : Type 0 where
+  pub atoms : book .atoms ≤ maxAtoms
+  pub rules : book .rules ≤ maxRuleRows * ruleWidth
+  pub literals : book .literals ≤ maxLiterals
+  pub clauses : book .clauses ≤ maxClauseRows * clauseWidth
+  pub loads : book .loads ≤ maxLoadRows * loadWidth
+  pub terms : book .terms ≤ maxTerms
+
+-- Answered where the counts have not seven places; no verdict packs to it.
+abbrev pub noAnswer : ℕ
+noAnswer = 4294967295
+
+-- What the maker's call promises: its answer, and the three slices afterwards.
+pub record EvaluatedForC (e : Evaluation) (answer : ℕ) (values levels work : List ℕ) : Type 0 where
+  pub answered : answer ≡ packedRounds (e .verdict) (e .rounds)
+  pub valuesIs : values ≡ e .values
+  pub levelsIs : levels ≡ e .levels
+  pub workIs : work ≡ e .work
+
+-- What the reader's call promises. With seven places it is the reader's answer; with any other number of places nothing is written.
+unfoldable pub sevenPlaces : List ℕ → Bool
+sevenPlaces answer = eqb (length answer) 7
+
+pub record ReadForC (text : List ℕ) (before : Contents) (answer : List ℕ) (code : ℕ) (afterwards : Contents) (answerAfter : List ℕ) : Type 0 where
+  pub answered : code ≡ cond (sevenPlaces answer) (packed (answerOf (judgeText (spaceOf before) text) .verdict)) noAnswer
+  pub told : answerAfter ≡ cond (sevenPlaces answer) (counted (answerOf (judgeText (spaceOf before) text))) answer
+  pub written : afterwards ≡ cond (sevenPlaces answer) (contentsAfter (judgeText (spaceOf before) text) (formsOf text) before) before

@@ -1,0 +1,165 @@
+// The calls for C. In C each slice is a pointer and a length, in this order; `include/battenplum.h` documents them.
+ghost use mathlib.Core.Path.{_≡_};
+ghost use Prim.Native.Nat.{_≤_};
+ghost use lib.ListN.{length};
+ghost use Rattle.tables.specs.Faults.{positionOf};
+ghost use Rattle.tables.specs.Sound.{lent};
+ghost use Rattle.checker.specs.Check.{checkOf};
+ghost use Rattle.evaluator.specs.Evaluate.{evaluateOf};
+ghost use Rattle.booktext.specs.Answers.{lentTables};
+ghost use Rattle.outcome.specs.Outcomes.{outcomeOf};
+ghost use Rattle.capi.specs.Packing.{packed, counted, WithinBook, EvaluatedForC, ReadForC};
+use booktext::Book;
+use booktext::read;
+use booktext::state_number;
+use checker::check;
+use evaluator::evaluate;
+use outcome::outcome_of;
+use tables::Verdict;
+use tables::number_of;
+use tables::position_of;
+
+// Answered where the counts have not seven places; no verdict packs to it.
+const NO_ANSWER: u32 = 4_294_967_295;
+
+// The verdict's number × 65,536 + its position; 0 if accepted.
+fn pack(verdict: Verdict) -> u32
+    requires { ⌜ positionOf verdict ≤ 65535 ⌝ }
+    ensures { λ r. ⌜ r ≡ packed verdict ⌝ }
+{
+    (number_of(verdict) * 65536 + position_of(verdict)) as u32
+}
+
+// The verdict on a text, from tables of full size held inside the call.
+#[no_mangle]
+pub extern "C" fn battenplum_verdict(text: &[u8]) -> u32
+    ensures { λ r. ⌜ r ≡ packed (outcomeOf (now (text .entry)) .verdict) ⌝ }
+{
+    let mut values = [0u8; 1024];
+    let mut levels = [0u16; 1024];
+    let outcome = outcome_of(text, &mut values, &mut levels);
+    let verdict = outcome.verdict;
+    pack(verdict)
+}
+
+// The check of a claim on lent tables.
+#[no_mangle]
+pub extern "C" fn battenplum_check(
+    n: usize,
+    rules: &[u16],
+    literals: &[u16],
+    clauses: &[u16],
+    loads: &[i32],
+    load_literals: &[u16],
+    minutes: &[i16],
+    values: &[u8],
+    levels: &[u16],
+) -> u32
+    ensures { λ r. ⌜ r ≡ packed
+        (checkOf (lent n (now (rules .entry)) (now (literals .entry)) (now (clauses .entry)) (now (loads .entry)) (now («load_literals» .entry))
+        (now (minutes .entry))) (now (values .entry)) (now (levels .entry))) ⌝ }
+{
+    pack(check(
+        n,
+        rules,
+        literals,
+        clauses,
+        loads,
+        load_literals,
+        minutes,
+        values,
+        levels,
+    ))
+}
+
+// The maker on lent tables: rounds × 2^32 above the packed verdict.
+#[no_mangle]
+pub extern "C" fn battenplum_evaluate(
+    n: usize,
+    rules: &[u16],
+    literals: &[u16],
+    clauses: &[u16],
+    loads: &[i32],
+    load_literals: &[u16],
+    minutes: &[i16],
+    open_values: &[u8],
+    values: &mut [u8],
+    levels: &mut [u16],
+    work: &mut [u16],
+) -> u64
+    ensures { λ r. ⌜ EvaluatedForC
+        (evaluateOf (lent n (now (rules .entry)) (now (literals .entry)) (now (clauses .entry)) (now (loads .entry)) (now («load_literals» .entry))
+        (now (minutes .entry))) (now («open_values» .entry)) (now (values .entry)) (now (levels .entry)) (now (work .entry)))
+        r (now (values .exit)) (now (levels .exit)) (now (work .exit)) ⌝ }
+{
+    let answer = evaluate(
+        n,
+        rules,
+        literals,
+        clauses,
+        loads,
+        load_literals,
+        minutes,
+        open_values,
+        values,
+        levels,
+        work,
+    );
+    let verdict = answer.verdict;
+    answer.rounds as u64 * 4_294_967_296 + pack(verdict) as u64
+}
+
+// Tells the seven counts in their places.
+fn tell(answer: &mut [u32], book: Book)
+    requires { ⌜ length (now answer) ≡ 7 ⌝ }
+    requires { ⌜ WithinBook book ⌝ }
+    ensures { λ r. ⌜ now (answer .exit) ≡ counted book ⌝ }
+{
+    let state = book.state;
+    answer[0] = book.atoms as u32;
+    answer[1] = book.rules as u32;
+    answer[2] = book.literals as u32;
+    answer[3] = book.clauses as u32;
+    answer[4] = book.loads as u32;
+    answer[5] = book.terms as u32;
+    answer[6] = state_number(state) as u32;
+}
+
+// The reader into lent tables, with what it counted in seven places.
+#[no_mangle]
+pub extern "C" fn battenplum_read(
+    text: &[u8],
+    rules: &mut [u16],
+    literals: &mut [u16],
+    clauses: &mut [u16],
+    loads: &mut [i32],
+    load_literals: &mut [u16],
+    minutes: &mut [i16],
+    values: &mut [u8],
+    levels: &mut [u16],
+    answer: &mut [u32],
+) -> u32
+    ensures { λ r. ⌜ ReadForC (now (text .entry))
+        (lentTables (now (rules .entry)) (now (literals .entry)) (now (clauses .entry)) (now (loads .entry)) (now («load_literals» .entry))
+        (now (minutes .entry)) (now (values .entry)) (now (levels .entry))) (now (answer .entry)) r
+        (lentTables (now (rules .exit)) (now (literals .exit)) (now (clauses .exit)) (now (loads .exit)) (now («load_literals» .exit))
+        (now (minutes .exit)) (now (values .exit)) (now (levels .exit))) (now (answer .exit)) ⌝ }
+{
+    if answer.len() != 7 {
+        return NO_ANSWER;
+    }
+    let book = read(
+        text,
+        rules,
+        literals,
+        clauses,
+        loads,
+        load_literals,
+        minutes,
+        values,
+        levels,
+    );
+    let verdict = book.verdict;
+    tell(answer, book);
+    pack(verdict)
+}

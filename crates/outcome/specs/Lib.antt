@@ -1,0 +1,2 @@
+-- What a text comes to: read, and then checked or evaluated.
+pub mod Outcomes

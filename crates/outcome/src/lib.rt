@@ -1,0 +1,202 @@
+// What a text comes to: it is read into tables of full size, and then its claim is checked or its open form evaluated.
+ghost use mathlib.Core.Path.{_≡_};
+ghost use Prim.Native.Nat.{_≤_};
+ghost use lib.ListN.{length};
+ghost use Rattle.tables.specs.Limits.{maxAtoms};
+ghost use Rattle.tables.specs.Sound.{lent};
+ghost use Rattle.booktext.specs.Answers.{lentTables};
+ghost use Rattle.outcome.specs.Outcomes.{isMade, evaluationOutcome, bookOutcome, outcomeOf, usedParts, Comes, Roomy, FitsBook};
+use booktext::Book;
+use booktext::StateForm;
+use booktext::read;
+use checker::check;
+use evaluator::evaluate;
+use tables::Fault;
+use tables::Verdict;
+
+// The verdict, the state form, for how many atoms values and levels were made, and the rounds.
+pub struct Outcome {
+    pub verdict: Verdict,
+    pub state: StateForm,
+    pub atoms: usize,
+    pub rounds: usize,
+}
+
+// Whether an evaluation was made: it was accepted, or refused for its model.
+pub fn is_made(verdict: Verdict) -> bool
+    ensures { λ r. ⌜ r ≡ isMade verdict ⌝ }
+{
+    match verdict {
+        Verdict::Accepted => true,
+        Verdict::Refused(fault, _) => match fault {
+            Fault::Undecided => true,
+            Fault::FailingClause => true,
+            Fault::FailingLoad => true,
+            _ => false,
+        },
+    }
+}
+
+// Evaluates a book at its open values; what is made stands at the front of the values and levels.
+fn evaluate_book(
+    rules: &[u16],
+    literals: &[u16],
+    clauses: &[u16],
+    loads: &[i32],
+    load_literals: &[u16],
+    minutes: &[i16],
+    given: &[u8],
+    values: &mut [u8],
+    levels: &mut [u16],
+) -> Outcome
+    requires { ⌜ length (now given) ≤ maxAtoms ⌝ }
+    requires { ⌜ Roomy (now values) (now levels) ⌝ }
+    ensures { λ r. ⌜ Comes
+        (evaluationOutcome (lent (length (now (given .entry))) (now (rules .entry)) (now (literals .entry)) (now (clauses .entry)) (now (loads .entry))
+        (now («load_literals» .entry)) (now (minutes .entry))) (now (given .entry)))
+        (now (values .entry)) (now (levels .entry)) (r .verdict) (r .state) (r .atoms) (r .rounds) (now (values .exit)) (now (levels .exit)) ⌝ }
+{
+    let mut work = [0u16; 1024];
+    let atoms = given.len();
+    let answer = evaluate(
+        atoms,
+        rules,
+        literals,
+        clauses,
+        loads,
+        load_literals,
+        minutes,
+        given,
+        &mut values[0..atoms],
+        &mut levels[0..atoms],
+        &mut work[0..atoms],
+    );
+    let verdict = answer.verdict;
+    let made = if is_made(verdict) { atoms } else { 0 };
+    Outcome {
+        verdict,
+        state: StateForm::OpenState,
+        atoms: made,
+        rounds: answer.rounds,
+    }
+}
+
+// The outcome of a claim that was checked, or of a text that was refused: a verdict alone.
+fn verdict_alone(state: StateForm, verdict: Verdict) -> Outcome
+    ensures { λ r. ⌜ (r .verdict ≡ verdict) × (r .state ≡ state) × (r .atoms ≡ 0) × (r .rounds ≡ 0) ⌝ }
+{
+    Outcome {
+        verdict,
+        state,
+        atoms: 0,
+        rounds: 0,
+    }
+}
+
+// What a book that was read comes to, from the used parts of its tables.
+fn book_outcome(
+    book: Book,
+    rules: &[u16],
+    literals: &[u16],
+    clauses: &[u16],
+    loads: &[i32],
+    load_literals: &[u16],
+    minutes: &[i16],
+    given: &[u8],
+    given_levels: &[u16],
+    values: &mut [u8],
+    levels: &mut [u16],
+) -> Outcome
+    requires { ⌜ FitsBook book (lentTables (now rules) (now literals) (now clauses) (now loads) (now «load_literals») (now minutes) (now given) (now «given_levels»)) ⌝ }
+    requires { ⌜ Roomy (now values) (now levels) ⌝ }
+    ensures { λ r. ⌜ Comes
+        (bookOutcome (book .verdict) (book .state) (book .atoms)
+        (usedParts book (lentTables (now (rules .entry)) (now (literals .entry)) (now (clauses .entry)) (now (loads .entry)) (now («load_literals» .entry))
+        (now (minutes .entry)) (now (given .entry)) (now («given_levels» .entry)))))
+        (now (values .entry)) (now (levels .entry)) (r .verdict) (r .state) (r .atoms) (r .rounds) (now (values .exit)) (now (levels .exit)) ⌝ }
+{
+    let atoms = book.atoms;
+    let rule_entries = book.rules;
+    let literal_entries = book.literals;
+    let clause_entries = book.clauses;
+    let load_entries = book.loads;
+    let terms = book.terms;
+    let verdict = book.verdict;
+    let used_rules = &rules[0..rule_entries];
+    let used_literals = &literals[0..literal_entries];
+    let used_clauses = &clauses[0..clause_entries];
+    let used_loads = &loads[0..load_entries];
+    let used_load_literals = &load_literals[0..terms];
+    let used_minutes = &minutes[0..terms];
+    let used_given = &given[0..atoms];
+    let used_levels = &given_levels[0..atoms];
+    let state = book.state;
+    match state {
+        StateForm::NoState => verdict_alone(StateForm::NoState, verdict),
+        StateForm::OpenState => evaluate_book(
+            used_rules,
+            used_literals,
+            used_clauses,
+            used_loads,
+            used_load_literals,
+            used_minutes,
+            used_given,
+            values,
+            levels,
+        ),
+        StateForm::ClaimState => verdict_alone(
+            StateForm::ClaimState,
+            check(
+                atoms,
+                used_rules,
+                used_literals,
+                used_clauses,
+                used_loads,
+                used_load_literals,
+                used_minutes,
+                used_given,
+                used_levels,
+            ),
+        ),
+    }
+}
+
+// What a text comes to. The tables of full size are held inside the call.
+pub fn outcome_of(text: &[u8], values: &mut [u8], levels: &mut [u16]) -> Outcome
+    requires { ⌜ Roomy (now values) (now levels) ⌝ }
+    ensures { λ r. ⌜ Comes (outcomeOf (now (text .entry)))
+        (now (values .entry)) (now (levels .entry)) (r .verdict) (r .state) (r .atoms) (r .rounds) (now (values .exit)) (now (levels .exit)) ⌝ }
+{
+    let mut rules = [0u16; 6144];
+    let mut literals = [0u16; 16384];
+    let mut clauses = [0u16; 4096];
+    let mut loads = [0i32; 256];
+    let mut load_literals = [0u16; 4096];
+    let mut minutes = [0i16; 4096];
+    let mut given = [0u8; 1024];
+    let mut given_levels = [0u16; 1024];
+    let book = read(
+        text,
+        &mut rules,
+        &mut literals,
+        &mut clauses,
+        &mut loads,
+        &mut load_literals,
+        &mut minutes,
+        &mut given,
+        &mut given_levels,
+    );
+    book_outcome(
+        book,
+        &rules,
+        &literals,
+        &clauses,
+        &loads,
+        &load_literals,
+        &minutes,
+        &given,
+        &given_levels,
+        values,
+        levels,
+    )
+}

@@ -1,0 +1,57 @@
+-- `page::put_atom` meets its contract: the parts of the line stand one behind the other.
+-- Assumes nothing.
+use mathlib.Core.List.{[], _∷_}
+use borrow.Author.Needs.{needs}
+use Rattle.format.specs.Forms.{space}
+use Rattle.page.specs.Pages.{atomWord, atomLine}
+use Rattle.page.proofs.PutLaws.{puts-behind}
+use Rattle.page.proofs.put_atom.Statement.{statement}
+use Rattle.page.proofs.put_atom.Tie as tie
+
+slice-aggregate-put-numbered : tie.Need-slice-aggregate-put-numbered
+slice-aggregate-put-numbered c = search needs
+
+put-numbered-requires : tie.Need-put-numbered-requires
+put-numbered-requires c κs = search needs
+
+slice-aggregate-put-numbered-2 : tie.Need-slice-aggregate-put-numbered-2
+slice-aggregate-put-numbered-2 c = search needs
+
+put-numbered-requires-2 : tie.Need-put-numbered-requires-2
+put-numbered-requires-2 c κs = search needs
+
+slice-aggregate-put-numbered-3 : tie.Need-slice-aggregate-put-numbered-3
+slice-aggregate-put-numbered-3 c = search needs
+
+put-numbered-requires-3 : tie.Need-put-numbered-requires-3
+put-numbered-requires-3 c κs = search needs
+
+slice-aggregate-put : tie.Need-slice-aggregate-put
+slice-aggregate-put c = search needs
+
+put-requires : tie.Need-put-requires
+put-requires c κs = search needs
+
+same-length : tie.Need-same-length
+same-length c = search needs
+
+returns : tie.Need-returns
+unfolding atomLine
+returns c =
+    puts-behind atomWord _ (c .before .before .before .before .before .before .before .before .before .before .before .before .before .before .before .before .before .put-numbered .ensures .0)
+    (puts-behind (space ∷ []) _ (c .before .before .before .before .before .before .before .before .before .before .before .before .put-numbered2 .ensures .0) (puts-behind (space ∷ []) _ (c .before .before .before .before .before .before .before .put-numbered3 .ensures .0) (c .before .before .put .ensures)))
+
+pub put-atom-spec : {M : Type 1} → statement M
+put-atom-spec =
+    tie.close
+    (tie.spec
+    slice-aggregate-put-numbered
+    put-numbered-requires
+    slice-aggregate-put-numbered-2
+    put-numbered-requires-2
+    slice-aggregate-put-numbered-3
+    put-numbered-requires-3
+    slice-aggregate-put
+    put-requires
+    same-length
+    returns)

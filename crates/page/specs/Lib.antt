@@ -1,0 +1,2 @@
+-- The printed page of document 01.
+pub mod Pages

@@ -1,0 +1,2 @@
+-- `ReportLaws`: a report is the page of the text's outcome, and a page of full size holds it.
+pub mod ReportLaws

@@ -1,0 +1,2 @@
+-- The report of a text: its outcome as a printed page.
+pub mod Reports
