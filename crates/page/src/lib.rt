@@ -22,7 +22,7 @@ fn put_byte(page: &mut [u8], at: usize, byte: u8)
 }
 
 // Puts bytes.
-fn put(page: &mut [u8], at: usize, bytes: &[u8]) -> usize
+pub fn put(page: &mut [u8], at: usize, bytes: &[u8]) -> usize
     requires { ⌜ at + length (now bytes) ≤ 1000000 ⌝ }
     ensures { λ r. ⌜ Puts (now (page .entry)) at (now (bytes .entry)) r (now (page .exit)) ⌝ }
 {

@@ -39,12 +39,12 @@ unfolding reportOf outcomePage printsAtoms
 report-is text = refl
 
 -- Bytes stored at the front of a page that holds them.
-held : (bytes page : List ℕ) → length bytes ≤ length page → sets page 0 bytes ≡ over bytes page
+pub held : (bytes page : List ℕ) → length bytes ≤ length page → sets page 0 bytes ≡ over bytes page
 unfolding over
 held bytes page l = let z : 0 + length bytes ≡ length bytes = omega arith in sets-eq bytes page 0 (omega arith) ∙ rw z
 
 -- The front of a slice that holds something there.
-front : {A : Type 0} (used held : List A) (n : ℕ) → n ≡ length used → take (n - 0) (over used held) ≡ used
+pub front : {A : Type 0} (used held : List A) (n : ℕ) → n ≡ length used → take (n - 0) (over used held) ≡ used
 unfolding over
 front used held n e = let f : n - 0 ≡ length used = omega (arith, e) in rw f (take-append-seam used (drop (length used) held))
 

@@ -6,8 +6,10 @@ mod bad_input;
 mod chains;
 mod claims;
 mod evaluated;
+mod paper;
 
 fn main() {
+    paper::run_paper();
     run_claims();
     run_evaluations();
     bad_input::run_bad_input();

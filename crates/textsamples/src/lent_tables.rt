@@ -42,7 +42,7 @@ fn lent(needed: usize, table: usize, short: usize) -> usize
     if table == short { needed - 1 } else { needed }
 }
 
-fn show_tables(
+pub fn show_tables(
     rules: &[u16],
     literals: &[u16],
     clauses: &[u16],

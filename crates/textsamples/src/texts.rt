@@ -58,6 +58,8 @@ fn run_malformed() {
     show_text(b"leading-zero", b"(atoms 01)\n(open)\n");
     show_text(b"minus-zero", b"(atoms 1)\n(load -0 0)\n(open)\n");
     show_text(b"minus-before-an-atom", b"(atoms 1)\n(rule -1)\n(open)\n");
+    show_text(b"minus-before-N", b"(atoms -1)\n(open)\n");
+    show_text(b"minus-before-a-value", b"(atoms 1)\n(claim (-1 0))\n");
     show_text(b"minus-before-a-level", b"(atoms 1)\n(claim (0 -1))\n");
     show_text(
         b"not-of-not",

@@ -1,0 +1,2 @@
+-- The paper's sample calls.
+pub mod Samples
