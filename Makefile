@@ -1,11 +1,15 @@
 # make run [BOOK=file]   the report of a book
 # make lib               build/libbattenplum.a beside its header
 # make install [PREFIX=] program, library, header, pkg-config file and manual pages
+# make cross [SEED= COUNT=] library and program against solvers in another language
+# make bench             times of the C calls against a fast version in another language
 # make test              the whole gate
 BOOK ?= examples/contact.book
 PREFIX ?= /usr/local
+CARGO = cargo --quiet --offline
+CROSS = --release --manifest-path cross/Cargo.toml --target-dir build/cross
 
-.PHONY: run lib install test clean
+.PHONY: run lib install cross bench test clean
 
 run: build/battenplum
 	@build/battenplum < $(BOOK)
@@ -32,6 +36,12 @@ install: build/battenplum build/libbattenplum.a
 	sed 's|@PREFIX@|$(PREFIX)|' battenplum.pc.in > $(PREFIX)/lib/pkgconfig/battenplum.pc
 	install -m 644 man/battenplum.1 $(PREFIX)/share/man/man1/
 	install -m 644 man/battenplum-book.5 $(PREFIX)/share/man/man5/
+
+cross: build/battenplum build/libbattenplum.a
+	@$(CARGO) run $(CROSS) --bin differ -- $(if $(SEED),--seed $(SEED)) $(if $(COUNT),--count $(COUNT))
+
+bench: build/libbattenplum.a
+	@$(CARGO) run $(CROSS) --bin bench
 
 # The last line is that of the prover, and is printed only if everything else has passed too.
 test:

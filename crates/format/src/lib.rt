@@ -4,6 +4,7 @@ pub mod kinds;
 pub mod literals;
 pub mod numbers;
 pub mod pairs;
+pub mod reader;
 pub mod signed;
 pub mod terms;
 pub mod words;

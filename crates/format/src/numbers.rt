@@ -1,5 +1,6 @@
 // Numbers in the text of a book: reading one yields the number and the next offset, or a refusal.
 use crate::bytes;
+use crate::reader::Reader;
 ghost use mathlib.Core.Path.{_≡_};
 ghost use mathlib.Core.Bool.{true};
 ghost use Prim.Native.Nat.{_+_, _-_, _*_, _≤_};
@@ -59,7 +60,7 @@ fn digits_from(text: &[u8], at: usize, value: usize) -> Number
 }
 
 // The number at an offset: one digit at least, and a zero that begins it stands alone.
-pub fn read_number(text: &[u8], at: usize) -> Number
+pub(crate) fn number_from(text: &[u8], at: usize) -> Number
     ensures { λ r. ⌜ r ≡ numberAt (now (text .entry)) at ⌝ }
 {
     if text.len() <= at {
@@ -77,4 +78,11 @@ pub fn read_number(text: &[u8], at: usize) -> Number
         return Number::Read(0, next);
     }
     digits_from(text, next, (first - b'0') as usize)
+}
+
+// The number at an offset, read through a reader of the text. Every number of a form is read here.
+pub fn read_number(text: &[u8], at: usize) -> Number
+    ensures { λ r. ⌜ r ≡ numberAt (now (text .entry)) at ⌝ }
+{
+    Reader::start(text).moved(at).number()
 }
