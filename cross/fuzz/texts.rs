@@ -1,0 +1,50 @@
+//! Any bytes as a text: the library between guard pages and the fast solver against the solver. libFuzzer makes the bytes; it
+//! follows the branches of the two solvers, which read the same texts as the library does.
+
+#![no_main]
+
+use cross::{
+    book::Lengths,
+    calls::Calls,
+    differ::{
+        case::Case,
+        guarded::GuardedLibrary,
+        lengths,
+        random::Random,
+        session::{Compared, Session},
+        side::Side,
+    },
+    fast::Fast,
+    solver::Solver,
+};
+use std::{process, slice};
+
+thread_local! {
+    static LIBRARY: GuardedLibrary = GuardedLibrary::default();
+}
+
+/// Called by libFuzzer, which lends the bytes for the time of the call.
+#[no_mangle]
+pub extern "C" fn LLVMFuzzerTestOneInput(bytes: *const u8, length: usize) -> i32 {
+    let text = if length == 0 { &[] } else { unsafe { slice::from_raw_parts(bytes, length) } };
+    LIBRARY.with(|library| {
+        if let Err(found) = compare(library, text) {
+            eprintln!("{}\n{}", found.what, found.case);
+            process::abort();
+        }
+    });
+    0
+}
+
+/// The verdict, the reading into tables of various lengths, and the check or the maker on what was read.
+fn compare(library: &dyn Calls, text: &[u8]) -> Compared {
+    let random = Random::new(text.iter().fold(0, |sum, &byte| sum * 31 % 1_000_003 + u64::from(byte)));
+    let mut session = Session::new(Solver::default(), &[Side::Calls(library), Side::Calls(&Fast)], random, 1);
+    session.compare(Case::verdict(text))?;
+    let read = session.solver.read(text, &Lengths::FULL);
+    for _ in 0..2 {
+        let lent = lengths::about(&mut session.random, &read);
+        session.compare(Case::read(text, lent))?;
+    }
+    session.what_was_read(&read)
+}

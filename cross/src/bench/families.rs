@@ -1,0 +1,103 @@
+//! The families of books, each in four sizes.
+
+use super::chains::{self, Chain};
+use super::dispatch;
+use super::layout::{claim_form, lines, open_form};
+use super::mixed::{self, Measure};
+use super::random::Random;
+use crate::book::{Book, Claim};
+use crate::calls::Calls;
+use crate::fast::Fast;
+
+#[derive(Clone, Copy, PartialEq, Eq, Debug)]
+pub enum Family {
+    Random,
+    Chain(Chain),
+    Dispatch,
+}
+
+impl Family {
+    pub const ALL: [Family; 6] = [
+        Family::Random,
+        Family::Chain(Chain::Forward),
+        Family::Chain(Chain::Reverse),
+        Family::Chain(Chain::Negated),
+        Family::Chain(Chain::Loop),
+        Family::Dispatch,
+    ];
+
+    pub fn name(self) -> &'static str {
+        match self {
+            Family::Random => "random",
+            Family::Chain(Chain::Forward) => "forward chain",
+            Family::Chain(Chain::Reverse) => "reverse chain",
+            Family::Chain(Chain::Negated) => "negation chain",
+            Family::Chain(Chain::Loop) => "one loop",
+            Family::Dispatch => "dispatch",
+        }
+    }
+}
+
+/// Sizes in eighths of the full one.
+pub const SIZES: [usize; 4] = [1, 2, 4, 8];
+
+/// A book with its open values and the claim that the maker makes of them, which is accepted.
+pub struct Sample {
+    pub book: Book,
+    pub open: Vec<u8>,
+    pub claim: Claim,
+    pub rounds: u64,
+}
+
+/// The text of a book with either state form, and the maker's rounds on it.
+pub struct Texts {
+    pub open: Vec<u8>,
+    pub claim: Vec<u8>,
+    pub rounds: u64,
+}
+
+/// All books of a family and size. There are the more of them the smaller they are, so that each size has as many entries in all,
+/// and a processor that remembers past branches remembers as small a part of them.
+pub struct Books {
+    pub samples: Vec<Sample>,
+    pub texts: Vec<Texts>,
+}
+
+impl Books {
+    pub fn new(family: Family, eighths: usize) -> Books {
+        let mut random = Random::new(2_024 + eighths as u64);
+        let count = 128 / eighths;
+        let samples = (0..count).map(|_| sample(family, Measure::TABLES.eighths(eighths), &mut random)).collect();
+        let texts = (0..count).map(|_| texts(&sample(family, Measure::TEXT.eighths(eighths), &mut random))).collect();
+        Books { samples, texts }
+    }
+}
+
+fn sample(family: Family, measure: Measure, random: &mut Random) -> Sample {
+    let (mut book, open) = match family {
+        Family::Random => mixed::rules(measure, random),
+        Family::Chain(chain) => chains::book(chain, measure.atoms, random),
+        Family::Dispatch => dispatch::book(measure.atoms, random),
+    };
+    let (mut claim, mut rounds) = made(&book, &open);
+    if family == Family::Random {
+        mixed::add_demands(&mut book, &claim, measure, random);
+        (claim, rounds) = made(&book, &open);
+    }
+    Sample { book, open, claim, rounds }
+}
+
+/// The maker's claim and rounds. The families are made so that it is accepted.
+fn made(book: &Book, open: &[u8]) -> (Claim, u64) {
+    let mut claim = Claim { values: vec![0; book.n], levels: vec![0; book.n] };
+    let answer = Fast.evaluate(book.tables(), open, &mut claim.values, &mut claim.levels, &mut vec![0; book.n]);
+    assert_eq!(answer as u32, 0, "a book of the benchmarks is refused");
+    (claim, answer >> 32)
+}
+
+fn texts(sample: &Sample) -> Texts {
+    let lines = lines(&sample.book);
+    let [open, claim] = [open_form(&sample.open), claim_form(&sample.claim)].map(|state| (lines.clone() + &state).into_bytes());
+    assert!(claim.len() <= 65_535, "a text of the benchmarks is too long");
+    Texts { open, claim, rounds: sample.rounds }
+}

@@ -1,0 +1,118 @@
+//! The calls that are measured, each on all books of a family and size.
+
+use super::families::{Books, SIZES};
+use super::timing::{compare, Patience, Times};
+use crate::calls::{Calls, TablesToFill};
+
+#[derive(Clone, Copy, PartialEq, Eq, Debug)]
+pub enum Measured {
+    Read,
+    Check,
+    Evaluate,
+    VerdictOnClaim,
+    VerdictOnOpen,
+}
+
+impl Measured {
+    pub const ALL: [Measured; 5] =
+        [Measured::Read, Measured::Check, Measured::Evaluate, Measured::VerdictOnClaim, Measured::VerdictOnOpen];
+
+    pub fn name(self) -> &'static str {
+        match self {
+            Measured::Read => "battenplum_read",
+            Measured::Check => "battenplum_check",
+            Measured::Evaluate => "battenplum_evaluate",
+            Measured::VerdictOnClaim => "battenplum_verdict on a claim",
+            Measured::VerdictOnOpen => "battenplum_verdict on an open form",
+        }
+    }
+
+    /// What times are divided by.
+    pub fn unit(self) -> &'static str {
+        match self {
+            Measured::Read | Measured::VerdictOnClaim => "byte",
+            Measured::Check => "literal",
+            Measured::Evaluate => "literal and round",
+            Measured::VerdictOnOpen => "byte and round",
+        }
+    }
+
+    /// How many units all books have. The maker's last round finds that nothing changes; it is work too and is counted.
+    pub fn units(self, books: &Books) -> f64 {
+        let rounds = |rounds: u64| (rounds + 1) as usize;
+        let units: usize = match self {
+            Measured::Read | Measured::VerdictOnClaim => books.texts.iter().map(|text| text.claim.len()).sum(),
+            Measured::Check => books.samples.iter().map(|sample| sample.book.entries()).sum(),
+            Measured::Evaluate => books.samples.iter().map(|sample| sample.book.entries() * rounds(sample.rounds)).sum(),
+            Measured::VerdictOnOpen => books.texts.iter().map(|text| text.open.len() * rounds(text.rounds)).sum(),
+        };
+        units as f64
+    }
+
+    /// The times of all sizes of a family.
+    pub fn times(self, sizes: &[Books; SIZES.len()], patience: Patience) -> [Times; SIZES.len()] {
+        let mut lent = Lent::default();
+        let books = sizes.each_ref().map(|books| books.samples.len());
+        compare(patience, books, |calls, size, number| self.run(calls, &sizes[size], number, &mut lent))
+    }
+
+    /// One call on the book of this number.
+    pub fn run(self, calls: &dyn Calls, books: &Books, number: usize, lent: &mut Lent) -> u64 {
+        let (sample, texts) = (&books.samples[number], &books.texts[number]);
+        let (tables, n) = (sample.book.tables(), sample.book.n);
+        match self {
+            Measured::Read => lent.read(calls, &texts.claim).into(),
+            Measured::Check => calls.check(tables, &sample.claim.values, &sample.claim.levels).into(),
+            Measured::Evaluate => {
+                calls.evaluate(tables, &sample.open, &mut lent.values[..n], &mut lent.levels[..n], &mut lent.work[..n])
+            }
+            Measured::VerdictOnClaim => calls.verdict(&texts.claim).into(),
+            Measured::VerdictOnOpen => calls.verdict(&texts.open).into(),
+        }
+    }
+}
+
+/// Tables of full size and the maker's slices, as a host would keep them.
+pub struct Lent {
+    rules: Vec<u16>,
+    literals: Vec<u16>,
+    clauses: Vec<u16>,
+    loads: Vec<i32>,
+    load_literals: Vec<u16>,
+    minutes: Vec<i16>,
+    values: Vec<u8>,
+    levels: Vec<u16>,
+    work: Vec<u16>,
+}
+
+impl Default for Lent {
+    fn default() -> Lent {
+        Lent {
+            rules: vec![0; 6_144],
+            literals: vec![0; 16_384],
+            clauses: vec![0; 4_096],
+            loads: vec![0; 256],
+            load_literals: vec![0; 4_096],
+            minutes: vec![0; 4_096],
+            values: vec![0; 1_024],
+            levels: vec![0; 1_024],
+            work: vec![0; 1_024],
+        }
+    }
+}
+
+impl Lent {
+    fn read(&mut self, calls: &dyn Calls, text: &[u8]) -> u32 {
+        let tables = TablesToFill {
+            rules: &mut self.rules,
+            literals: &mut self.literals,
+            clauses: &mut self.clauses,
+            loads: &mut self.loads,
+            load_literals: &mut self.load_literals,
+            minutes: &mut self.minutes,
+            values: &mut self.values,
+            levels: &mut self.levels,
+        };
+        calls.read(text, tables, &mut [0; 7])
+    }
+}

@@ -1,0 +1,166 @@
+//! Compares the library, the fast solver and the program with the solver, on every family of cases.
+//!
+//!     differ [--seed S] [--count C] [--family NAME] [--program FILE] [--refusals FILE] [--faults]
+//!
+//! S chooses the random cases, C how many rounds each random family makes; with NAME only this family is run. The first
+//! difference is printed with the smallest case that shows it, and the status is then 1. With `--faults` each deliberate fault is
+//! put into the solver in turn, and the status is 0 only if every one is noticed.
+
+use cross::{
+    calls::Library,
+    differ::{
+        families::{self, Family},
+        random::Random,
+        refusals,
+        session::{Found, Session},
+        side::Side,
+    },
+    fast::Fast,
+    solver::{Fault, Solver},
+};
+use std::{
+    collections::BTreeMap,
+    env, fs,
+    io::{self, Write},
+    path::{Path, PathBuf},
+    process::ExitCode,
+    time::Instant,
+};
+
+/// The numbers of the paper. A run in which one of them never is the verdict has lost what it was there for.
+const NUMBERS: [u32; 19] = [0, 1, 2, 3, 4, 11, 12, 13, 14, 15, 16, 17, 21, 22, 23, 24, 25, 26, 27];
+
+struct Options {
+    seed: u64,
+    count: usize,
+    family: Option<String>,
+    program: PathBuf,
+    refusals: PathBuf,
+    faults: bool,
+}
+
+fn main() -> ExitCode {
+    let run = options(env::args().skip(1)).and_then(|options| Ok((families_of(&options)?, options)));
+    match run {
+        Ok((families, options)) if options.faults => status(notice_faults(&options, &families)),
+        Ok((families, options)) => status(compare(&options, &families)),
+        Err(message) => {
+            eprintln!("differ: {message}");
+            ExitCode::from(2)
+        }
+    }
+}
+
+fn status(good: bool) -> ExitCode {
+    if good {
+        ExitCode::SUCCESS
+    } else {
+        ExitCode::FAILURE
+    }
+}
+
+/// The program and the page stand beside this package, unless options or the variable that the build knows say otherwise.
+fn options(mut arguments: impl Iterator<Item = String>) -> Result<Options, String> {
+    let repository = Path::new(env!("CARGO_MANIFEST_DIR")).join("..");
+    let build = env::var("BATTENPLUM_BUILD").map_or(repository.join("build"), PathBuf::from);
+    let mut options = Options {
+        seed: 1,
+        count: 50_000,
+        family: None,
+        program: build.join("battenplum"),
+        refusals: repository.join("docs/REFUSALS.md"),
+        faults: false,
+    };
+    while let Some(name) = arguments.next() {
+        if name == "--faults" {
+            options.faults = true;
+            continue;
+        }
+        let value = arguments.next().ok_or(format!("{name} is no option, or has no value"))?;
+        let number = value.parse().map_err(|_| format!("{name} {value} is no number"));
+        match name.as_str() {
+            "--seed" => options.seed = number?,
+            "--count" => options.count = number? as usize,
+            "--family" => options.family = Some(value),
+            "--program" => options.program = value.into(),
+            "--refusals" => options.refusals = value.into(),
+            _ => return Err(format!("{name} is no option")),
+        }
+    }
+    Ok(options)
+}
+
+/// The families to be run, each with its place among all, which it takes its seed from.
+fn families_of(options: &Options) -> Result<Vec<(usize, Family)>, String> {
+    let named = |file: &Path, error: io::Error| format!("{}: {error}", file.display());
+    fs::metadata(&options.program).map_err(|error| named(&options.program, error))?;
+    let page = fs::read_to_string(&options.refusals).map_err(|error| named(&options.refusals, error))?;
+    let all = families::all(refusals::of_page(&page)?);
+    let names: Vec<&str> = all.iter().map(|family| family.name).collect();
+    let unknown = options.family.as_ref().filter(|name| !names.contains(&name.as_str()));
+    match unknown {
+        Some(name) => Err(format!("{name} is none of the families {}", names.join(", "))),
+        None => {
+            let wanted = |family: &Family| options.family.as_ref().is_none_or(|name| name == family.name);
+            Ok(all.into_iter().enumerate().filter(|(_, family)| wanted(family)).collect())
+        }
+    }
+}
+
+/// Runs one family in a session of its own, so that its cases do not depend on the families before.
+fn run<'a>(family: &(usize, Family), options: &Options, solver: Solver, sides: &[Side<'a>]) -> (Session<'a>, Option<Box<Found>>) {
+    let random = Random::new(options.seed.wrapping_mul(1_000).wrapping_add(family.0 as u64));
+    let mut session = Session::new(solver, sides, random, options.count);
+    let found = family.1.run(&mut session).err();
+    (session, found)
+}
+
+/// Whether nothing differs. The name of a family is printed before it is run, so that it is known if a side does not return.
+fn compare(options: &Options, families: &[(usize, Family)]) -> bool {
+    let sides = [Side::Calls(&Library), Side::Calls(&Fast), Side::Program(&options.program)];
+    let mut all = 0;
+    let mut numbers = BTreeMap::new();
+    for family in families {
+        print!("{}: ", family.1.name);
+        io::stdout().flush().expect("standard output takes what is printed");
+        let start = Instant::now();
+        let (session, found) = run(family, options, Solver::default(), &sides);
+        if let Some(found) = found {
+            println!("case {} differs\n{}\n{}", session.cases, found.what, found.case);
+            return false;
+        }
+        println!("{} cases, {:.1} s", session.cases, start.elapsed().as_secs_f64());
+        all += session.cases;
+        session.numbers.into_iter().for_each(|(number, cases)| *numbers.entry(number).or_insert(0) += cases);
+    }
+    let shown: Vec<String> = numbers.iter().map(|(number, cases)| format!("{number} {cases} times")).collect();
+    println!("verdicts by number: {}", shown.join(", "));
+    let missing: Vec<&u32> = NUMBERS.iter().filter(|number| !numbers.contains_key(number)).collect();
+    if options.family.is_none() && !missing.is_empty() {
+        println!("differ: no case has the numbers {missing:?}");
+        return false;
+    }
+    println!("differ: {all} cases, no difference");
+    true
+}
+
+/// Whether each fault makes a difference to the library or the program.
+fn notice_faults(options: &Options, families: &[(usize, Family)]) -> bool {
+    let noticed = Fault::ALL.iter().filter(|&&fault| notice(fault, options, families)).count();
+    println!("differ: {noticed} of {} faults noticed", Fault::ALL.len());
+    noticed == Fault::ALL.len()
+}
+
+fn notice(fault: Fault, options: &Options, families: &[(usize, Family)]) -> bool {
+    let sides = [Side::Calls(&Library), Side::Program(&options.program)];
+    println!("fault: {}", fault.describe());
+    for family in families {
+        let (session, found) = run(family, options, Solver { fault: Some(fault) }, &sides);
+        if let Some(found) = found {
+            println!("noticed by {}, case {}: {}\n{}", family.1.name, session.cases, found.what, found.case);
+            return true;
+        }
+    }
+    println!("not noticed\n");
+    false
+}

@@ -1,0 +1,100 @@
+//! The words that all sides share: tables, verdicts, claims.
+
+/// A verdict: the paper's number and position; 0 and 0 if accepted.
+#[derive(Clone, Copy, PartialEq, Eq, Debug, Default)]
+pub struct Verdict {
+    pub number: u32,
+    pub position: u32,
+}
+
+impl Verdict {
+    pub const ACCEPTED: Verdict = Verdict { number: 0, position: 0 };
+
+    pub fn refused(number: u32, position: usize) -> Verdict {
+        Verdict { number, position: position as u32 }
+    }
+
+    /// As the C calls hand it over.
+    pub fn packed(self) -> u32 {
+        self.number * 65_536 + self.position
+    }
+
+    pub fn unpacked(packed: u32) -> Verdict {
+        Verdict { number: packed >> 16, position: packed & 0xFFFF }
+    }
+}
+
+/// N and the six tables of a book, in the paper's layout. Any content and any lengths, sound or not.
+#[derive(Clone, PartialEq, Eq, Debug, Default)]
+pub struct Book {
+    pub n: usize,
+    pub rules: Vec<u16>,
+    pub literals: Vec<u16>,
+    pub clauses: Vec<u16>,
+    pub loads: Vec<i32>,
+    pub load_literals: Vec<u16>,
+    pub minutes: Vec<i16>,
+}
+
+/// Values and levels as a planner claims them, or as the maker writes them.
+#[derive(Clone, PartialEq, Eq, Debug, Default)]
+pub struct Claim {
+    pub values: Vec<u8>,
+    pub levels: Vec<u16>,
+}
+
+/// What the maker answers. `written` is what values and levels then hold (work is then all 0), or nothing where the paper says
+/// that nothing is written.
+#[derive(Clone, PartialEq, Eq, Debug)]
+pub struct Made {
+    pub verdict: Verdict,
+    pub rounds: u32,
+    pub written: Option<Claim>,
+}
+
+/// Which state form a text has, with the numbers that the C call answers.
+#[derive(Clone, Copy, PartialEq, Eq, Debug, Default)]
+pub enum State {
+    #[default]
+    None = 0,
+    Open = 1,
+    Claim = 2,
+}
+
+/// The lengths, in entries, of the tables lent to a reader.
+#[derive(Clone, Copy, PartialEq, Eq, Debug)]
+pub struct Lengths {
+    pub rules: usize,
+    pub literals: usize,
+    pub clauses: usize,
+    pub loads: usize,
+    pub load_literals: usize,
+    pub minutes: usize,
+    pub values: usize,
+    pub levels: usize,
+}
+
+impl Lengths {
+    /// Tables of full size: they hold every book.
+    pub const FULL: Lengths = Lengths {
+        rules: 6_144,
+        literals: 16_384,
+        clauses: 4_096,
+        loads: 256,
+        load_literals: 4_096,
+        minutes: 4_096,
+        values: 1_024,
+        levels: 1_024,
+    };
+}
+
+/// What the reader answers: for an accepted text the book, the state form and its values (N of them) and, for a claim, its levels;
+/// for a refused one an empty book, `State::None` and nothing else.
+#[derive(Clone, PartialEq, Eq, Debug, Default)]
+pub struct Read {
+    pub verdict: Verdict,
+    pub book: Book,
+    pub state: State,
+    pub values: Vec<u8>,
+    pub levels: Vec<u16>,
+}

@@ -1,0 +1,137 @@
+//! One call with everything that is lent to it.
+
+use super::forms::{claim_form, open_form, Forms};
+use crate::book::{Book, Lengths};
+use std::fmt::{Debug, Display, Formatter, Result};
+
+/// The lengths of the slices that the maker writes.
+#[derive(Clone, Copy, PartialEq, Eq, Debug)]
+pub struct Written {
+    pub values: usize,
+    pub levels: usize,
+    pub work: usize,
+}
+
+impl Written {
+    pub fn all(length: usize) -> Written {
+        Written { values: length, levels: length, work: length }
+    }
+}
+
+#[derive(Clone)]
+pub enum Case {
+    Verdict {
+        text: Vec<u8>,
+    },
+    Read {
+        text: Vec<u8>,
+        lent: Lengths,
+        answer: usize,
+    },
+    Check {
+        book: Book,
+        values: Vec<u8>,
+        levels: Vec<u16>,
+    },
+    Evaluate {
+        book: Book,
+        open_values: Vec<u8>,
+        written: Written,
+    },
+    /// The program: what it prints for a text.
+    Report {
+        text: Vec<u8>,
+    },
+}
+
+impl Case {
+    pub fn call(&self) -> &'static str {
+        match self {
+            Case::Verdict { .. } => "verdict",
+            Case::Read { .. } => "read",
+            Case::Check { .. } => "check",
+            Case::Evaluate { .. } => "evaluate",
+            Case::Report { .. } => "report",
+        }
+    }
+
+    /// An evaluation with all slices N long.
+    pub fn evaluate(book: &Book, open_values: &[u8]) -> Case {
+        Case::Evaluate { book: book.clone(), open_values: open_values.to_vec(), written: Written::all(book.n) }
+    }
+
+    pub fn check(book: &Book, values: &[u8], levels: &[u16]) -> Case {
+        Case::Check { book: book.clone(), values: values.to_vec(), levels: levels.to_vec() }
+    }
+
+    pub fn verdict(text: &[u8]) -> Case {
+        Case::Verdict { text: text.to_vec() }
+    }
+
+    pub fn report(text: &[u8]) -> Case {
+        Case::Report { text: text.to_vec() }
+    }
+
+    /// A reading into tables of the named lengths.
+    pub fn read(text: &[u8], lent: Lengths) -> Case {
+        Case::Read { text: text.to_vec(), lent, answer: 7 }
+    }
+}
+
+/// As it is reported to whoever looks for the fault: texts as they are, tables as lists, and as a text too where they can be one.
+impl Display for Case {
+    fn fmt(&self, out: &mut Formatter) -> Result {
+        match self {
+            Case::Verdict { text } | Case::Report { text } => show_text(out, text),
+            Case::Read { text, lent, answer } => {
+                show_text(out, text)?;
+                writeln!(out, "lent: {lent:?}, answer: {answer}")
+            }
+            Case::Check { book, values, levels } => {
+                show_tables(out, book)?;
+                show_list(out, "values", values)?;
+                show_list(out, "levels", levels)?;
+                show_as_text(out, book, &claim_form(values, levels))
+            }
+            Case::Evaluate { book, open_values, written } => {
+                show_tables(out, book)?;
+                show_list(out, "open values", open_values)?;
+                writeln!(out, "written: {written:?}")?;
+                show_as_text(out, book, &open_form(open_values))
+            }
+        }
+    }
+}
+
+/// A text line by line; bytes that cannot be printed are escaped.
+fn show_text(out: &mut Formatter, text: &[u8]) -> Result {
+    writeln!(out, "text of {} bytes:", text.len())?;
+    for line in text.split_inclusive(|&byte| byte == b'\n') {
+        writeln!(out, "  {}", line.escape_ascii())?;
+    }
+    Ok(())
+}
+
+fn show_tables(out: &mut Formatter, book: &Book) -> Result {
+    writeln!(out, "  n: {}", book.n)?;
+    show_list(out, "rules", &book.rules)?;
+    show_list(out, "literals", &book.literals)?;
+    show_list(out, "clauses", &book.clauses)?;
+    show_list(out, "loads", &book.loads)?;
+    show_list(out, "load literals", &book.load_literals)?;
+    show_list(out, "minutes", &book.minutes)
+}
+
+fn show_list<T: Debug>(out: &mut Formatter, name: &str, list: &[T]) -> Result {
+    match list.len() {
+        0..=200 => writeln!(out, "  {name}: {list:?}"),
+        many => writeln!(out, "  {name}: {:?} and so on, {many} in all", &list[..200]),
+    }
+}
+
+fn show_as_text(out: &mut Formatter, book: &Book, state: &str) -> Result {
+    match Forms::of(book) {
+        Some(forms) => show_text(out, &forms.text(state)),
+        None => Ok(()),
+    }
+}

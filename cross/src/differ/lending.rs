@@ -1,0 +1,161 @@
+//! All slices that are lent to one call, each inside its own buffer.
+
+use super::{buffer::Buffer, case::Case, random::Random};
+use crate::{
+    book::{Book, Lengths},
+    calls::{Tables, TablesToFill},
+};
+
+/// The six tables of a book.
+#[derive(Clone, PartialEq)]
+pub struct TableBuffers {
+    pub rules: Buffer<u16>,
+    pub literals: Buffer<u16>,
+    pub clauses: Buffer<u16>,
+    pub loads: Buffer<i32>,
+    pub load_literals: Buffer<u16>,
+    pub minutes: Buffer<i16>,
+}
+
+impl TableBuffers {
+    fn holding(book: &Book, random: &mut Random) -> TableBuffers {
+        TableBuffers {
+            rules: Buffer::holding(&book.rules, random),
+            literals: Buffer::holding(&book.literals, random),
+            clauses: Buffer::holding(&book.clauses, random),
+            loads: Buffer::holding(&book.loads, random),
+            load_literals: Buffer::holding(&book.load_literals, random),
+            minutes: Buffer::holding(&book.minutes, random),
+        }
+    }
+
+    fn arbitrary(lent: &Lengths, random: &mut Random) -> TableBuffers {
+        TableBuffers {
+            rules: Buffer::arbitrary(lent.rules, random),
+            literals: Buffer::arbitrary(lent.literals, random),
+            clauses: Buffer::arbitrary(lent.clauses, random),
+            loads: Buffer::arbitrary(lent.loads, random),
+            load_literals: Buffer::arbitrary(lent.load_literals, random),
+            minutes: Buffer::arbitrary(lent.minutes, random),
+        }
+    }
+
+    pub fn to_read(&self, n: usize) -> Tables<'_> {
+        Tables {
+            n,
+            rules: self.rules.lent(),
+            literals: self.literals.lent(),
+            clauses: self.clauses.lent(),
+            loads: self.loads.lent(),
+            load_literals: self.load_literals.lent(),
+            minutes: self.minutes.lent(),
+        }
+    }
+
+    /// Puts the tables of a book at the front of the lent ones.
+    pub fn write(&mut self, book: &Book) {
+        self.rules.write(&book.rules);
+        self.literals.write(&book.literals);
+        self.clauses.write(&book.clauses);
+        self.loads.write(&book.loads);
+        self.load_literals.write(&book.load_literals);
+        self.minutes.write(&book.minutes);
+    }
+
+    fn differences(&self, found: &TableBuffers) -> [(&'static str, Option<String>); 6] {
+        [
+            ("rules", self.rules.first_difference(&found.rules)),
+            ("literals", self.literals.first_difference(&found.literals)),
+            ("clauses", self.clauses.first_difference(&found.clauses)),
+            ("loads", self.loads.first_difference(&found.loads)),
+            ("load literals", self.load_literals.first_difference(&found.load_literals)),
+            ("minutes", self.minutes.first_difference(&found.minutes)),
+        ]
+    }
+}
+
+/// A slice that the call does not have is empty here, with its guard entries all the same.
+#[derive(Clone, PartialEq)]
+pub struct Lending {
+    pub text: Buffer<u8>,
+    pub tables: TableBuffers,
+    pub open_values: Buffer<u8>,
+    pub values: Buffer<u8>,
+    pub levels: Buffer<u16>,
+    pub work: Buffer<u16>,
+    pub answer: Buffer<u32>,
+}
+
+impl Lending {
+    /// What is lent before the call. Slices to be written, and whatever stands beside a slice, hold what `noise` gives.
+    pub fn of(case: &Case, noise: u64) -> Lending {
+        let random = &mut Random::new(noise);
+        let nothing = Lending::nothing(random);
+        match case {
+            Case::Verdict { text } | Case::Report { text } => Lending { text: Buffer::holding(text, random), ..nothing },
+            Case::Read { text, lent, answer } => Lending {
+                text: Buffer::holding(text, random),
+                tables: TableBuffers::arbitrary(lent, random),
+                values: Buffer::arbitrary(lent.values, random),
+                levels: Buffer::arbitrary(lent.levels, random),
+                answer: Buffer::arbitrary(*answer, random),
+                ..nothing
+            },
+            Case::Check { book, values, levels } => Lending {
+                tables: TableBuffers::holding(book, random),
+                values: Buffer::holding(values, random),
+                levels: Buffer::holding(levels, random),
+                ..nothing
+            },
+            Case::Evaluate { book, open_values, written } => Lending {
+                tables: TableBuffers::holding(book, random),
+                open_values: Buffer::holding(open_values, random),
+                values: Buffer::arbitrary(written.values, random),
+                levels: Buffer::arbitrary(written.levels, random),
+                work: Buffer::arbitrary(written.work, random),
+                ..nothing
+            },
+        }
+    }
+
+    fn nothing(random: &mut Random) -> Lending {
+        Lending {
+            text: Buffer::arbitrary(0, random),
+            tables: TableBuffers::holding(&Book::default(), random),
+            open_values: Buffer::arbitrary(0, random),
+            values: Buffer::arbitrary(0, random),
+            levels: Buffer::arbitrary(0, random),
+            work: Buffer::arbitrary(0, random),
+            answer: Buffer::arbitrary(0, random),
+        }
+    }
+
+    /// The text, the tables to be filled from it and the answer, of a reading.
+    pub fn to_fill(&mut self) -> (&[u8], TablesToFill<'_>, &mut [u32]) {
+        let tables = TablesToFill {
+            rules: self.tables.rules.lent_mut(),
+            literals: self.tables.literals.lent_mut(),
+            clauses: self.tables.clauses.lent_mut(),
+            loads: self.tables.loads.lent_mut(),
+            load_literals: self.tables.load_literals.lent_mut(),
+            minutes: self.tables.minutes.lent_mut(),
+            values: self.values.lent_mut(),
+            levels: self.levels.lent_mut(),
+        };
+        (self.text.lent(), tables, self.answer.lent_mut())
+    }
+
+    /// The first slice whose buffer differs, and where.
+    pub fn first_difference(&self, found: &Lending) -> Option<String> {
+        let others = [
+            ("text", self.text.first_difference(&found.text)),
+            ("open values", self.open_values.first_difference(&found.open_values)),
+            ("values", self.values.first_difference(&found.values)),
+            ("levels", self.levels.first_difference(&found.levels)),
+            ("work", self.work.first_difference(&found.work)),
+            ("answer", self.answer.first_difference(&found.answer)),
+        ];
+        let all = self.tables.differences(&found.tables).into_iter().chain(others);
+        all.into_iter().find_map(|(name, difference)| difference.map(|place| format!("{name}{place}")))
+    }
+}

@@ -1,0 +1,30 @@
+//! Lengths of the tables that are lent to a reader: just so, one entry short, or any.
+
+use super::random::Random;
+use crate::book::{Lengths, Read};
+
+/// Lengths about those that a text needs, which `read` was read from.
+pub fn about(random: &mut Random, read: &Read) -> Lengths {
+    let book = &read.book;
+    Lengths {
+        rules: near(random, book.rules.len()),
+        literals: near(random, book.literals.len()),
+        clauses: near(random, book.clauses.len()),
+        loads: near(random, book.loads.len()),
+        load_literals: near(random, book.load_literals.len()),
+        minutes: near(random, book.minutes.len()),
+        values: near(random, book.n),
+        levels: near(random, book.n),
+    }
+}
+
+/// Mostly enough.
+fn near(random: &mut Random, needed: usize) -> usize {
+    match random.below(16) {
+        0 => needed.saturating_sub(1),
+        1 => random.below(needed + 1),
+        2..=7 => needed,
+        8..=11 => needed + 1,
+        _ => needed + random.below(60),
+    }
+}

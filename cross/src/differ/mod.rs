@@ -1,0 +1,27 @@
+//! Compares the library, the fast solver and the program with the solver that follows the paper, case by case, and finds the
+//! smallest case that shows a difference.
+
+mod books;
+mod buffer;
+mod by_trying;
+pub mod case;
+mod claims;
+mod damage;
+pub mod families;
+mod forms;
+pub mod guarded;
+pub mod lending;
+pub mod lengths;
+pub mod outcome;
+pub mod pages;
+pub mod random;
+mod readings;
+pub mod refusals;
+mod samples;
+pub mod session;
+mod settings;
+mod shrink;
+pub mod side;
+
+#[cfg(test)]
+mod tests;

@@ -1,0 +1,4 @@
+//! How unclear places of the paper are read: each reading as a text or as tables, with the verdict that it gives.
+
+pub mod tables;
+pub mod texts;

@@ -1,0 +1,102 @@
+//! The smallest case that still shows a difference: parts are left out, and numbers made smaller, as long as the difference stays.
+
+mod tables;
+mod texts;
+
+use super::case::Case;
+use crate::book::{Book, Lengths};
+use std::{
+    iter,
+    ops::Range,
+    time::{Duration, Instant},
+};
+
+/// A difference is reported after this time, however small the case then is.
+const PATIENCE: Duration = Duration::from_secs(20);
+
+type Smaller<'a, T> = Box<dyn Iterator<Item = T> + 'a>;
+
+pub fn smallest(case: Case, differs: impl Fn(&Case) -> bool) -> Case {
+    let deadline = Instant::now() + PATIENCE;
+    let mut smallest = case;
+    loop {
+        let in_time = || Instant::now() < deadline;
+        let next = smaller(&smallest).take_while(|_| in_time()).find(&differs);
+        match next {
+            Some(case) => smallest = case,
+            None => return smallest,
+        }
+    }
+}
+
+/// Cases that are smaller by one step, large steps first. Each is smaller by some measure, so that this comes to an end.
+fn smaller(case: &Case) -> Smaller<'_, Case> {
+    match case {
+        Case::Verdict { text } => Box::new(texts::smaller(text).map(|text| Case::Verdict { text })),
+        Case::Report { text } => Box::new(texts::smaller(text).map(|text| Case::Report { text })),
+        Case::Read { text, lent, answer } => {
+            let texts = texts::smaller(text).map(|text| Case::Read { text, lent: *lent, answer: *answer });
+            Box::new(texts.chain(fuller(lent).map(|lent| Case::Read { text: text.clone(), lent, answer: *answer })))
+        }
+        Case::Check { book, values, levels } => Box::new(smaller_check(book, values, levels)),
+        Case::Evaluate { book, open_values, written } => {
+            let tables =
+                tables::smaller(book).map(|book| Case::Evaluate { book, open_values: open_values.clone(), written: *written });
+            let numbers = smaller_numbers(open_values);
+            let values = numbers.map(|open_values| Case::Evaluate { book: book.clone(), open_values, written: *written });
+            let atoms = tables::without_an_atom(book).filter(|_| open_values.len() == book.n);
+            let atoms = atoms.map(|(atom, book)| Case::evaluate(&book, &without(open_values, atom..atom + 1)));
+            Box::new(atoms.chain(tables).chain(values))
+        }
+    }
+}
+
+fn smaller_check<'a>(book: &'a Book, values: &'a [u8], levels: &'a [u16]) -> Smaller<'a, Case> {
+    let tables = tables::smaller(book).map(|book| Case::check(&book, values, levels));
+    let values_smaller = smaller_numbers(values).map(|values| Case::check(book, &values, levels));
+    let levels_smaller = smaller_numbers(levels).map(|levels| Case::check(book, values, &levels));
+    let atoms = tables::without_an_atom(book).filter(|_| values.len() == book.n && levels.len() == book.n);
+    let atoms = atoms.map(|(atom, book)| Case::check(&book, &without(values, atom..atom + 1), &without(levels, atom..atom + 1)));
+    Box::new(atoms.chain(tables).chain(values_smaller).chain(levels_smaller))
+}
+
+/// Tables of full size say less than others, so each length that is not needed becomes that.
+fn fuller(lent: &Lengths) -> impl Iterator<Item = Lengths> {
+    let full = Lengths::FULL;
+    let candidates = [
+        Lengths { rules: full.rules, ..*lent },
+        Lengths { literals: full.literals, ..*lent },
+        Lengths { clauses: full.clauses, ..*lent },
+        Lengths { loads: full.loads, ..*lent },
+        Lengths { load_literals: full.load_literals, ..*lent },
+        Lengths { minutes: full.minutes, ..*lent },
+        Lengths { values: full.values, ..*lent },
+        Lengths { levels: full.levels, ..*lent },
+    ];
+    let lent = *lent;
+    candidates.into_iter().filter(move |candidate| *candidate != lent)
+}
+
+/// Parts of a list of this length: the whole, its halves, and so on down to single entries.
+fn parts(length: usize) -> impl Iterator<Item = Range<usize>> {
+    let sizes = iter::successors((length > 0).then_some(length), |&size| (size > 1).then_some(size.div_ceil(2)));
+    sizes.flat_map(move |size| (0..length).step_by(size).map(move |start| start..(start + size).min(length)))
+}
+
+fn without<T: Clone>(list: &[T], part: Range<usize>) -> Vec<T> {
+    [&list[..part.start], &list[part.end..]].concat()
+}
+
+/// Each entry nearer to zero.
+fn smaller_numbers<T: Copy + Into<i64> + TryFrom<i64> + 'static>(list: &[T]) -> Smaller<'_, Vec<T>> {
+    let nearer = |place: usize| {
+        let number: i64 = list[place].into();
+        [0, number / 2, number - number.signum()].into_iter().filter(move |&smaller| smaller.abs() < number.abs())
+    };
+    let changed = move |place: usize, number: i64| {
+        let mut changed = list.to_vec();
+        changed[place] = T::try_from(number).ok()?;
+        Some(changed)
+    };
+    Box::new((0..list.len()).flat_map(move |place| nearer(place).filter_map(move |number| changed(place, number))))
+}

@@ -1,0 +1,83 @@
+//! The sides that are held against the solver: implementations of the calls, and the program.
+
+use super::{
+    case::Case,
+    lending::Lending,
+    outcome::{Answer, Outcome},
+};
+use crate::calls::Calls;
+use std::{
+    io::{self, ErrorKind, Write},
+    path::Path,
+    process::{Command, Stdio},
+};
+
+#[derive(Clone, Copy)]
+pub enum Side<'a> {
+    Calls(&'a dyn Calls),
+    Program(&'a Path),
+}
+
+impl Side<'_> {
+    pub fn name(&self) -> &'static str {
+        match self {
+            Side::Calls(calls) => calls.name(),
+            Side::Program(_) => "program",
+        }
+    }
+
+    /// What this side does with a case, or nothing if it does not have the call.
+    pub fn outcome(&self, case: &Case, before: &Lending) -> Option<Outcome> {
+        let mut after = before.clone();
+        let answer = match (self, case) {
+            (Side::Calls(calls), case) => answer_of_call(*calls, case, &mut after)?,
+            (Side::Program(program), Case::Report { text }) => Answer::Page(printed(program, text)),
+            (Side::Program(_), _) => return None,
+        };
+        Some(Outcome { answer, after })
+    }
+}
+
+fn answer_of_call(calls: &dyn Calls, case: &Case, lent: &mut Lending) -> Option<Answer> {
+    match case {
+        Case::Verdict { .. } => Some(Answer::Verdict(calls.verdict(lent.text.lent()))),
+        Case::Read { .. } => {
+            let (text, tables, answer) = lent.to_fill();
+            Some(Answer::Verdict(calls.read(text, tables, answer)))
+        }
+        Case::Check { book, .. } => {
+            let tables = lent.tables.to_read(book.n);
+            Some(Answer::Verdict(calls.check(tables, lent.values.lent(), lent.levels.lent())))
+        }
+        Case::Evaluate { book, .. } => {
+            let tables = lent.tables.to_read(book.n);
+            let (values, levels, work) = (lent.values.lent_mut(), lent.levels.lent_mut(), lent.work.lent_mut());
+            Some(Answer::Made(calls.evaluate(tables, lent.open_values.lent(), values, levels, work)))
+        }
+        Case::Report { .. } => None,
+    }
+}
+
+/// What the program prints for a text. A program that cannot be run, or ends with another status than 0, prints nothing that
+/// could be a page, so this differs from every report.
+fn printed(program: &Path, text: &[u8]) -> Vec<u8> {
+    match run(program, text) {
+        Ok(page) => page,
+        Err(error) => format!("({}: {error})", program.display()).into_bytes(),
+    }
+}
+
+fn run(program: &Path, text: &[u8]) -> io::Result<Vec<u8>> {
+    let mut child = Command::new(program).stdin(Stdio::piped()).stdout(Stdio::piped()).spawn()?;
+    let mut input = child.stdin.take().ok_or(ErrorKind::BrokenPipe)?;
+    match input.write_all(text) {
+        // The program need not read on once a text is too long.
+        Err(error) if error.kind() != ErrorKind::BrokenPipe => return Err(error),
+        _ => drop(input),
+    }
+    let output = child.wait_with_output()?;
+    match output.status.success() {
+        true => Ok(output.stdout),
+        false => Err(io::Error::other(format!("ended with {}", output.status))),
+    }
+}

@@ -1,0 +1,115 @@
+//! The comparison itself: whether it notices what it is there for, and how small the cases become that it reports.
+
+use super::{
+    case::Case,
+    lending::Lending,
+    outcome::{expected, Answer, Outcome},
+    random::Random,
+    refusals,
+    session::Session,
+    shrink::smallest,
+    side::Side,
+};
+use crate::{
+    book::{Book, Lengths},
+    calls::{Calls, Tables, TablesToFill},
+    fast::Fast,
+    solver::Solver,
+};
+
+const TEXT: &[u8] = b"(atoms 3)\n(rule 0 1)\n(rule 2 (not 0))\n(clause 1 2)\n(load 0 9 (3 0) (4 1))\n(open 1)\n";
+
+/// A side that is right but for one entry that it writes beyond those it should.
+struct OneEntryMore;
+
+impl Calls for OneEntryMore {
+    fn name(&self) -> &'static str {
+        "one entry more"
+    }
+
+    fn verdict(&self, text: &[u8]) -> u32 {
+        Fast.verdict(text)
+    }
+
+    fn check(&self, tables: Tables, values: &[u8], levels: &[u16]) -> u32 {
+        Fast.check(tables, values, levels)
+    }
+
+    fn evaluate(&self, tables: Tables, open_values: &[u8], values: &mut [u8], levels: &mut [u16], work: &mut [u16]) -> u64 {
+        let answer = Fast.evaluate(tables, open_values, values, levels, work);
+        work.iter_mut().for_each(|entry| *entry = entry.wrapping_add(1));
+        answer
+    }
+
+    fn read(&self, text: &[u8], tables: TablesToFill, answer: &mut [u32]) -> u32 {
+        let last = tables.levels.len() - 1;
+        tables.levels[last] = tables.levels[last].wrapping_add(1);
+        Fast.read(text, tables, answer)
+    }
+}
+
+fn session(side: &dyn Calls) -> Session<'_> {
+    Session::new(Solver::default(), &[Side::Calls(side)], Random::new(1), 1)
+}
+
+#[test]
+fn an_entry_too_many_is_noticed() {
+    assert!(session(&Fast).text(TEXT).is_ok());
+    let read = session(&OneEntryMore).compare(Case::read(TEXT, Lengths::FULL)).expect_err("a level was written");
+    assert!(read.what.contains("levels[1023] of 1024"), "{}", read.what);
+    let book = Book { n: 1, ..Book::default() };
+    let made = session(&OneEntryMore).compare(Case::evaluate(&book, &[0])).expect_err("work was written");
+    assert!(made.what.contains("work[0] of 1 is 1 instead of 0"), "{}", made.what);
+}
+
+/// What the solver expects, with one slice changed.
+fn noticed(case: &Case, change: impl Fn(&mut Lending)) -> Option<String> {
+    let before = Lending::of(case, 5);
+    let solved = expected(&Solver::default(), case, &before);
+    let mut after = solved.after.clone();
+    change(&mut after);
+    solved.difference(&Outcome { answer: Answer::Verdict(0), after })
+}
+
+#[test]
+fn a_changed_slice_that_is_only_read_is_noticed() {
+    let check = Case::check(&Book { n: 2, literals: vec![0, 1], ..Book::default() }, &[1, 0], &[0, 0]);
+    assert_eq!(noticed(&check, |_| {}), None);
+    assert!(noticed(&check, |after| after.tables.literals.lent_mut()[1] = 7).is_some_and(|what| what.contains("literals[1]")));
+    assert!(noticed(&check, |after| after.values.lent_mut()[0] = 7).is_some_and(|what| what.contains("values[0]")));
+}
+
+#[test]
+fn the_smallest_text_has_what_differs_and_no_more() {
+    let needed = |case: &Case| matches!(case, Case::Verdict { text } if text.windows(7).any(|part| part == b"(not 0)"));
+    let Case::Verdict { text } = smallest(Case::verdict(TEXT), needed) else { panic!("another call") };
+    assert_eq!(text, b"(not 0)");
+}
+
+#[test]
+fn the_smallest_tables_have_what_differs_and_no_more() {
+    let literals = (0..40).map(|place| place % 8).collect();
+    let rules = (0..10).flat_map(|row| [row % 4, 4 * row, 4]).collect();
+    let book = Book { n: 4, rules, literals, ..Book::default() };
+    let needed = |case: &Case| match case {
+        Case::Check { book, .. } => {
+            let body = |row: &[u16]| book.literals[row[1] as usize..][..row[2] as usize].to_vec();
+            book.n > 1 && book.rules.chunks_exact(3).any(|row| row[0] == 1 && body(row).contains(&3))
+        }
+        _ => false,
+    };
+    let Case::Check { book, values, .. } = smallest(Case::check(&book, &[0; 4], &[1; 4]), needed) else { panic!("another call") };
+    assert_eq!(book, Book { n: 2, rules: vec![1, 0, 1], literals: vec![3], ..Book::default() });
+    assert_eq!(values.len(), 2);
+}
+
+#[test]
+fn a_page_of_refusals_has_a_line_for_each_block() {
+    let block = "```book\n(atoms 0)\n```\n";
+    let line = "prints `(refused 3 10)`\n";
+    assert!(refusals::of_page(&format!("{block}{line}{block}{line}")).is_ok_and(|samples| samples.len() == 2));
+    assert!(refusals::of_page(&format!("{block}{block}{line}")).is_err());
+    assert!(refusals::of_page(block).is_err());
+    assert!(refusals::of_page(line).is_err());
+    assert!(refusals::of_page("no block").is_err());
+}

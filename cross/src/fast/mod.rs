@@ -1,0 +1,92 @@
+//! The four calls in plain Rust, written for speed: what the benchmarks measure the proved library against.
+//!
+//! Nothing is allocated and nothing is unsafe. The check is linear, and the maker goes by rounds over all rules, as the library does,
+//! so that a ratio of times compares code with code. The reader reads a text once, into tables of its own, and copies the used parts
+//! out if the text is accepted.
+
+mod check;
+mod evaluate;
+mod faults;
+mod lines;
+mod reader;
+mod satisfaction;
+mod scan;
+#[cfg(test)]
+mod tests;
+
+use crate::book::{Lengths, State, Verdict};
+use crate::calls::{Calls, Tables, TablesToFill};
+use reader::{FullTables, Used};
+
+/// What the reader answers if `answer` has not seven places.
+const NO_ANSWER: u32 = 0xFFFF_FFFF;
+
+pub struct Fast;
+
+impl Calls for Fast {
+    fn name(&self) -> &'static str {
+        "fast"
+    }
+
+    fn verdict(&self, text: &[u8]) -> u32 {
+        let mut tables = FullTables::new();
+        let verdict = match reader::read(text, &Lengths::FULL, &mut tables) {
+            Ok(used) => outcome(&tables, &used),
+            Err(refused) => refused,
+        };
+        verdict.packed()
+    }
+
+    fn check(&self, tables: Tables, values: &[u8], levels: &[u16]) -> u32 {
+        check::check(tables, values, levels).packed()
+    }
+
+    fn evaluate(&self, tables: Tables, open_values: &[u8], values: &mut [u8], levels: &mut [u16], work: &mut [u16]) -> u64 {
+        let (rounds, verdict) = evaluate::evaluate(tables, open_values, values, levels, work);
+        u64::from(rounds) << 32 | u64::from(verdict.packed())
+    }
+
+    fn read(&self, text: &[u8], mut lent: TablesToFill, answer: &mut [u32]) -> u32 {
+        if answer.len() != 7 {
+            return NO_ANSWER;
+        }
+        let mut tables = FullTables::new();
+        match reader::read(text, &lengths(&lent), &mut tables) {
+            Ok(used) => {
+                tables.copy_used(&used, &mut lent);
+                answer.copy_from_slice(&used.answer());
+                Verdict::ACCEPTED.packed()
+            }
+            Err(refused) => {
+                answer.fill(0);
+                refused.packed()
+            }
+        }
+    }
+}
+
+/// The verdict on an accepted text: its claim checked, or its open form evaluated.
+fn outcome(tables: &FullTables, used: &Used) -> Verdict {
+    let n = used.n;
+    match used.state {
+        State::Claim => check::check(tables.used(used), &tables.values[..n], &tables.levels[..n]),
+        _ => {
+            let (mut values, mut levels, mut work) = ([0; 1_024], [0; 1_024], [0; 1_024]);
+            let (made, stages) = (&mut values[..n], &mut levels[..n]);
+            evaluate::evaluate(tables.used(used), &tables.values[..n], made, stages, &mut work[..n]).1
+        }
+    }
+}
+
+fn lengths(lent: &TablesToFill) -> Lengths {
+    Lengths {
+        rules: lent.rules.len(),
+        literals: lent.literals.len(),
+        clauses: lent.clauses.len(),
+        loads: lent.loads.len(),
+        load_literals: lent.load_literals.len(),
+        minutes: lent.minutes.len(),
+        values: lent.values.len(),
+        levels: lent.levels.len(),
+    }
+}

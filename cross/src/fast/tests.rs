@@ -1,0 +1,269 @@
+//! `Fast` against the library: every answer and every slice whole, on random texts and tables, sound ones and others.
+
+use super::Fast;
+use crate::bench::random::Random;
+use crate::book::{Book, Verdict};
+use crate::calls::{Calls, Library, TablesToFill};
+use std::collections::BTreeSet;
+
+/// Lent to a reader, with content of its own in every entry.
+#[derive(Clone, PartialEq, Debug)]
+struct Lent {
+    words: [Vec<u16>; 5],
+    loads: Vec<i32>,
+    minutes: Vec<i16>,
+    values: Vec<u8>,
+    answer: Vec<u32>,
+}
+
+impl Lent {
+    /// Of full size, or now and then shorter.
+    fn new(random: &mut Random, full: bool) -> Lent {
+        let mut length = |most: usize| if full || random.below(3) > 0 { most } else { random.below(8) };
+        Lent {
+            words: [6_144, 16_384, 4_096, 4_096, 1_024].map(|most| vec![0xA5A5; length(most)]),
+            loads: vec![-77; length(256)],
+            minutes: vec![-99; length(4_096)],
+            values: vec![0xC3; length(1_024)],
+            answer: vec![0xDDDD; if full || length(8) == 8 { 7 } else { 6 }],
+        }
+    }
+
+    fn read(mut self, calls: &dyn Calls, text: &[u8]) -> (u32, Lent) {
+        let [rules, literals, clauses, load_literals, levels] = &mut self.words;
+        let (loads, minutes, values) = (&mut self.loads, &mut self.minutes, &mut self.values);
+        let tables = TablesToFill { rules, literals, clauses, loads, load_literals, minutes, values, levels };
+        let verdict = calls.read(text, tables, &mut self.answer);
+        (verdict, self)
+    }
+}
+
+fn literal(random: &mut Random) -> String {
+    match random.below(7) {
+        0..=3 => random.below(6).to_string(),
+        4 | 5 => format!("(not {})", random.below(6)),
+        _ => random.below(1_026).to_string(),
+    }
+}
+
+fn several(random: &mut Random, mut part: impl FnMut(&mut Random) -> String) -> String {
+    (0..random.below(4)).map(|_| format!(" {}", part(random))).collect()
+}
+
+fn signed(random: &mut Random, most: usize) -> i64 {
+    random.below(2 * most + 1) as i64 - most as i64
+}
+
+/// A book in the order of the format, which `spoilt` then damages.
+fn text(random: &mut Random) -> Vec<u8> {
+    let n = random.below(7);
+    let mut lines = vec![format!("(atoms {n})")];
+    for _ in 0..random.below(6) {
+        lines.push(format!("(rule {}{})", random.below(6), several(random, literal)));
+    }
+    for _ in 0..random.below(3) {
+        lines.push(format!("(clause{})", several(random, literal)));
+    }
+    for _ in 0..random.below(3) {
+        let terms = several(random, |random| format!("({} {})", signed(random, 1_441), literal(random)));
+        lines.push(format!("(load {} {}{terms})", signed(random, 300), signed(random, 1_000_001)));
+    }
+    lines.push(if random.once_in(2) {
+        let atoms: String = (0..n).filter(|_| random.once_in(3)).map(|atom| format!(" {atom}")).collect();
+        format!("(open{atoms})")
+    } else {
+        let pairs: String = (0..n).map(|_| format!(" ({} {})", random.below(2), random.below(3))).collect();
+        format!("(claim{pairs})")
+    });
+    if random.once_in(8) {
+        let (here, there) = (random.below(lines.len()), random.below(lines.len()));
+        lines.swap(here, there);
+    }
+    spoilt((lines.join("\n") + "\n").into_bytes(), random)
+}
+
+/// Now and then one byte is replaced, dropped or doubled.
+fn spoilt(mut text: Vec<u8>, random: &mut Random) -> Vec<u8> {
+    let at = random.below(text.len());
+    match random.below(8) {
+        0 => text[at] = b"0123456789() -\nrx"[random.below(17)],
+        1 => drop(text.remove(at)),
+        2 => text.insert(at, text[at]),
+        _ => {}
+    }
+    text
+}
+
+/// The number of a verdict as the calls pack it.
+fn number(packed: u32) -> u32 {
+    Verdict::unpacked(packed).number
+}
+
+#[test]
+fn texts_are_read_alike() {
+    let mut random = Random::new(1);
+    let mut met = BTreeSet::new();
+    for case in 0..20_000 {
+        let text = text(&mut random);
+        let lent = Lent::new(&mut random, case % 2 == 0);
+        let shown = String::from_utf8_lossy(&text);
+        let (read, verdict) = (lent.clone().read(&Fast, &text), Fast.verdict(&text));
+        assert_eq!(read, lent.read(&Library, &text), "{shown}");
+        assert_eq!(verdict, Library.verdict(&text), "{shown}");
+        met.extend([number(read.0), number(verdict)]);
+    }
+    for expected in [0, 1, 2, 3, 4, 12, 15, 16, 21, 22, 23, 24, 25, 26, 27] {
+        assert!(met.contains(&expected), "no text was refused with {expected}");
+    }
+}
+
+/// The limits of 2 and 4, which small texts do not reach.
+#[test]
+fn long_texts_are_read_alike() {
+    let mut random = Random::new(2);
+    let pairs = |count: usize| format!("(claim{})\n", " (0 0)".repeat(count));
+    let rules = |count: usize| "(rule 0)\n".repeat(count);
+    let clauses = |count: usize| "(clause)\n".repeat(count);
+    let bodies = |count: usize| format!("(rule 0{})\n", " 1".repeat(count));
+    let terms = |count: usize| format!("(load 0 0{})\n", " (1 1)".repeat(count));
+    for extra in 0..2 {
+        let texts = [
+            format!("(atoms 1024)\n{}", pairs(1_024 + extra)),
+            format!("(atoms {})\n(open)\n", 1_024 + extra),
+            format!("(atoms 2)\n{}(open)\n", rules(2_048 + extra)),
+            format!("(atoms 2)\n{}(open)\n", clauses(2_048 + extra)),
+            format!("(atoms 2)\n(clause)\n{}(open)\n", rules(2_048 + extra)),
+            format!("(atoms 2)\n{}(open)\n", bodies(16_384 + extra)),
+            format!("(atoms 2)\n{}{}(open)\n", bodies(16_383), bodies(1 + extra)),
+            format!("(atoms 2)\n{}(open)\n", terms(4_096 + extra)),
+            format!("(atoms 2)\n{}(open)\n", "(load 0 0)\n".repeat(64 + extra)),
+            format!("(atoms {}1)\n(open)\n", "9".repeat(5_000 * extra)),
+            format!("{}{}", "(atoms 2)\n(open)\n", "9".repeat(65_535 - 17 + extra)),
+        ];
+        for text in texts.iter().map(String::as_bytes) {
+            let lent = Lent::new(&mut random, true);
+            assert_eq!(lent.clone().read(&Fast, text), lent.read(&Library, text));
+            assert_eq!(Fast.verdict(text), Library.verdict(text));
+        }
+    }
+}
+
+/// A number below `limit`, or rarely the limit itself.
+fn mostly_below(limit: usize, random: &mut Random) -> usize {
+    if limit == 0 || random.once_in(90) {
+        limit
+    } else {
+        random.below(limit)
+    }
+}
+
+/// Start and count of a part of a table of this length, rarely one too many.
+fn part(length: usize, random: &mut Random) -> [usize; 2] {
+    let start = random.below(length + 1);
+    [start, mostly_below(length - start + 1, random)]
+}
+
+/// Tables of random content: mostly sound, since each entry is bad only rarely. Rows overlap at will.
+fn book(random: &mut Random) -> Book {
+    let (n, literals, terms) = (random.below(9), random.below(12), random.below(6));
+    let mut book = Book { n, ..Book::default() };
+    for _ in 0..random.below(9) {
+        let [start, count] = part(literals, random);
+        book.rules.extend([mostly_below(n, random), start, count % 5].map(|entry| entry as u16));
+    }
+    for _ in 0..random.below(3) {
+        book.clauses.extend(part(literals, random).map(|entry| entry as u16));
+    }
+    for _ in 0..random.below(3) {
+        book.loads.extend(load_row(terms, random));
+    }
+    book.literals = (0..literals).map(|_| mostly_below(2 * n, random) as u16).collect();
+    book.load_literals = (0..terms).map(|_| mostly_below(2 * n, random) as u16).collect();
+    book.minutes = (0..terms).map(|_| signed(random, 1_441) as i16).collect();
+    if random.once_in(30) {
+        book.rules.push(0);
+    }
+    book
+}
+
+fn load_row(terms: usize, random: &mut Random) -> [i32; 4] {
+    let [start, count] = part(terms, random).map(|entry| entry as i32);
+    let mut row = [-(random.below(300) as i32), random.below(300) as i32, start, count];
+    if random.once_in(12) {
+        row[random.below(4)] = [i32::MAX, i32::MIN, -1, 1_000_001, -1_000_001][random.below(5)];
+    }
+    row
+}
+
+/// Values for the open atoms and, rarely, something else or something at a defined atom.
+fn open_values(book: &Book, random: &mut Random) -> Vec<u8> {
+    let length = book.n + usize::from(random.once_in(60));
+    let mut open: Vec<u8> = (0..length).map(|_| mostly_below(2, random) as u8).collect();
+    for &head in book.rules.iter().step_by(3) {
+        if let Some(value) = open.get_mut(usize::from(head)) {
+            *value *= u8::from(random.once_in(40));
+        }
+    }
+    open
+}
+
+#[test]
+fn tables_are_judged_alike() {
+    let mut random = Random::new(3);
+    let mut met = BTreeSet::new();
+    for _ in 0..60_000 {
+        let book = book(&mut random);
+        let open = open_values(&book, &mut random);
+        let mut length = || book.n + usize::from(random.once_in(60));
+        let slices = (vec![9; length()], vec![9; length()], vec![9; length()]);
+        let made = [&Fast as &dyn Calls, &Library].map(|calls| {
+            let (mut values, mut levels, mut work) = slices.clone();
+            let answer = calls.evaluate(book.tables(), &open, &mut values, &mut levels, &mut work);
+            (answer, values, levels, work)
+        });
+        assert_eq!(made[0], made[1], "{book:?} {open:?}");
+        let [(answer, mut values, mut levels, _), _] = made;
+        for _ in 0..random.below(3) * values.len().min(levels.len()).min(1) {
+            let (value, level) = (random.below(values.len()), random.below(levels.len()));
+            (values[value], levels[level]) = (random.below(3) as u8, random.below(5) as u16);
+        }
+        let checked = Fast.check(book.tables(), &values, &levels);
+        assert_eq!(checked, Library.check(book.tables(), &values, &levels), "{book:?} {values:?} {levels:?}");
+        met.extend([number(answer as u32), number(checked)]);
+    }
+    let all = [0].into_iter().chain(11..=17).chain(21..=27);
+    assert_eq!(met, all.collect(), "not every number was met");
+}
+
+/// The limits of 11 and 17, which small tables do not reach.
+#[test]
+fn sizes_are_judged_alike() {
+    let full = Book {
+        n: 1_024,
+        rules: vec![0; 6_144],
+        literals: vec![0; 16_384],
+        clauses: vec![0; 4_096],
+        loads: vec![0; 256],
+        load_literals: vec![0; 4_096],
+        minutes: vec![0; 4_096],
+    };
+    let changes: [fn(&mut Book); 8] = [
+        |_| {},
+        |book| book.n += 1,
+        |book| book.rules.extend([0; 3]),
+        |book| book.literals.push(0),
+        |book| book.clauses.extend([0; 2]),
+        |book| book.loads.extend([0; 4]),
+        |book| book.minutes.push(0),
+        |book| (book.minutes.push(0), book.load_literals.push(0)).0,
+    ];
+    for change in changes {
+        let mut book = full.clone();
+        change(&mut book);
+        for length in [1_024, 1_025] {
+            let (values, levels) = (vec![0; length], vec![0; length]);
+            let checked = [&Fast as &dyn Calls, &Library].map(|calls| calls.check(book.tables(), &values, &levels));
+            assert_eq!(checked[0], checked[1]);
+        }
+    }
+}

@@ -1,0 +1,48 @@
+//! Deliberate faults: each is a mistake that a reader of the paper could make.
+
+/// One rule of the paper, broken in the solver's own copy of it.
+#[derive(Clone, Copy, PartialEq, Eq, Debug)]
+pub enum Fault {
+    OrderBeforeLimits,
+    FullTableRefused,
+    EmptyRowPastTheEnd,
+    LevelAboveDefinedCount,
+    PositiveBlockerStrictlyLower,
+    NegatedBlockerNoHigher,
+    HeadReportedForRow,
+    MutualSupport,
+    TruncatedTenths,
+    UndecidedPrintedLast,
+}
+
+impl Fault {
+    pub const ALL: [Fault; 10] = [
+        Fault::OrderBeforeLimits,
+        Fault::FullTableRefused,
+        Fault::EmptyRowPastTheEnd,
+        Fault::LevelAboveDefinedCount,
+        Fault::PositiveBlockerStrictlyLower,
+        Fault::NegatedBlockerNoHigher,
+        Fault::HeadReportedForRow,
+        Fault::MutualSupport,
+        Fault::TruncatedTenths,
+        Fault::UndecidedPrintedLast,
+    ];
+
+    pub fn describe(self) -> &'static str {
+        match self {
+            Fault::OrderBeforeLimits => "A line refused for both 2 and 3 answers 3.",
+            Fault::FullTableRefused => "A line that fills a lent table to its last entry is refused with 4.",
+            Fault::EmptyRowPastTheEnd => "A row of count 0 may start past the end of its table.",
+            Fault::LevelAboveDefinedCount => "A defined atom may have level D + 1.",
+            Fault::PositiveBlockerStrictlyLower => "A positive defined literal blocks only from a strictly lower level.",
+            Fault::NegatedBlockerNoHigher => "A negated defined literal blocks from an equal level too.",
+            Fault::HeadReportedForRow => "An unblocked rule answers its head atom as the position, not its row.",
+            Fault::MutualSupport => {
+                "Atoms that rest only on each other are never made false together, just those that rest on themselves."
+            }
+            Fault::TruncatedTenths => "Minutes are counted in tenths by division that truncates.",
+            Fault::UndecidedPrintedLast => "Undecided atoms are printed after all others, not at level 0.",
+        }
+    }
+}

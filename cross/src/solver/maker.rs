@@ -1,0 +1,69 @@
+//! The maker: stages from the open values, and the verdict on the model.
+
+use super::decoded::Decoded;
+use super::stages::Stages;
+use super::{alternating, Solver};
+use crate::book::{Book, Claim, Made, Verdict};
+
+impl Solver {
+    /// Panics where the stages and the alternating fixed point differ: one of them is then wrong, and no answer can be trusted.
+    pub fn evaluate(&self, book: &Book, open_values: &[u8], values_len: usize, levels_len: usize, work_len: usize) -> Made {
+        let nothing_written = |verdict| Made { verdict, rounds: 0, written: None };
+        if let Some(verdict) = self.table_refusal(book, &[open_values.len(), values_len, levels_len, work_len]) {
+            return nothing_written(verdict);
+        }
+        let decoded = Decoded::new(book);
+        if let Some(atom) = bad_open_value(&decoded, open_values) {
+            return nothing_written(Verdict::refused(21, atom));
+        }
+        let stages = self.stages(&decoded, open_values);
+        if self.fault.is_none() {
+            confirm(&decoded, open_values, &stages);
+        }
+        let claim = claim_of(&stages, book.n);
+        let undecided = claim.values.iter().position(|value| *value == 2);
+        let refusal = undecided.map(|atom| Verdict::refused(25, atom)).or_else(|| self.sentence_refusal(&decoded, &claim.values));
+        let verdict = refusal.unwrap_or(Verdict::ACCEPTED);
+        Made { verdict, rounds: stages.closure_number() as u32, written: Some(claim) }
+    }
+}
+
+fn bad_open_value(book: &Decoded, open_values: &[u8]) -> Option<usize> {
+    (0..book.atoms()).find(|atom| {
+        let highest = if book.defined[*atom] { 0 } else { 1 };
+        open_values[*atom] > highest
+    })
+}
+
+fn claim_of(stages: &Stages, n: usize) -> Claim {
+    Claim {
+        values: stages.model().iter().map(|held| held.map_or(2, u8::from)).collect(),
+        levels: (0..n).map(|atom| stages.of_atom(atom).unwrap_or(0) as u16).collect(),
+    }
+}
+
+/// Holds the last stage against the second opinion. Not asked of a solver with a deliberate fault, which may well differ.
+fn confirm(book: &Decoded, open_values: &[u8], stages: &Stages) {
+    let second = alternating::model(book, open_values);
+    for (atom, (first, second)) in stages.model().iter().zip(&second).enumerate() {
+        assert_eq!(
+            first, second,
+            "atom {atom}: the stages and the alternating fixed point differ on {book:?} with {open_values:?}"
+        );
+    }
+}
+
+#[cfg(test)]
+mod tests {
+    use super::super::Fault;
+    use super::*;
+
+    /// The second opinion is worth something: it notices stages that miss atoms 0 and 1, which rest on each other.
+    #[test]
+    #[should_panic(expected = "atom 0: the stages and the alternating fixed point differ")]
+    fn wrong_stages_are_noticed() {
+        let book = Decoded::new(&Book { n: 2, rules: vec![0, 0, 1, 1, 1, 1], literals: vec![2, 0], ..Book::default() });
+        let faulty = Solver { fault: Some(Fault::MutualSupport) };
+        confirm(&book, &[0, 0], &faulty.stages(&book, &[0, 0]));
+    }
+}

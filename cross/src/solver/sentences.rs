@@ -1,0 +1,48 @@
+//! Refusals 26 and 27: clauses and load lines that fail with a claim's or a model's values.
+
+use super::decoded::{Decoded, Literal, LoadLine};
+use super::{Fault, Solver};
+use crate::book::Verdict;
+
+impl Solver {
+    pub(super) fn sentence_refusal(&self, book: &Decoded, values: &[u8]) -> Option<Verdict> {
+        let holds = |literal: &Literal| literal.of(values[literal.atom()] == 1);
+        let failing_clause = book.clauses.iter().position(|clause| !clause.iter().any(holds));
+        let failing_line = || book.load_lines.iter().position(|line| !self.line_holds(line, holds));
+        let clause_refusal = failing_clause.map(|row| Verdict::refused(26, row));
+        clause_refusal.or_else(|| failing_line().map(|row| Verdict::refused(27, row)))
+    }
+
+    fn line_holds(&self, line: &LoadLine, holds: impl Fn(&Literal) -> bool) -> bool {
+        let counted = line.terms.iter().filter(|(_, literal)| holds(literal));
+        let sum: i64 = counted.map(|(minutes, _)| self.tenths(*minutes)).sum();
+        sum >= line.least && sum <= line.most
+    }
+
+    /// The whole tenth nearest to so many minutes: of the two around it the nearer, and of two equally near the one further from 0.
+    fn tenths(&self, minutes: i64) -> i64 {
+        if self.has(Fault::TruncatedTenths) {
+            return minutes / 6;
+        }
+        let below = minutes.div_euclid(6);
+        let above = below + 1;
+        let (to_below, to_above) = (minutes - 6 * below, 6 * above - minutes);
+        match to_below.cmp(&to_above) {
+            std::cmp::Ordering::Less => below,
+            std::cmp::Ordering::Greater => above,
+            std::cmp::Ordering::Equal => std::cmp::max_by_key(below, above, |tenths| tenths.abs()),
+        }
+    }
+}
+
+#[cfg(test)]
+mod tests {
+    use super::*;
+
+    #[test]
+    fn tenths_of_the_paper() {
+        let solver = Solver::default();
+        let counted = [-15, -9, -4, -3, -2, 0, 2, 3, 8, 9, 15, 60, 1_440, -1_440].map(|minutes| solver.tenths(minutes));
+        assert_eq!(counted, [-3, -2, -1, -1, 0, 0, 0, 1, 1, 2, 3, 10, 240, -240]);
+    }
+}
