@@ -11,17 +11,17 @@ use borrow.Author.Tests.{eqb-true}
 use Rattle.wellfounded.proofs.Tests.{first, second}
 use Rattle.wellfounded.proofs.Lists.{length-tabulate}
 use Rattle.format.specs.Forms.{Form, atomsForm, ruleForm, clauseForm, loadForm, openForm, claimForm}
-use Rattle.booktext.specs.declared.reached.Reached.{Reached}
-use Rattle.booktext.specs.declared.reached.Space.{Space}
-use Rattle.booktext.specs.States.{start, added, kindIn, sizeIn, partsIn, after}
-use Rattle.booktext.specs.Judging.{partsInOrder}
-use Rattle.booktext.specs.Entries.{Contents, noEntries, entriesOf, store, storeForms, joined, entriesFrom, bookEntries, over, filled}
-use Rattle.booktext.specs.Entries.{literalsIn, termsIn, ruleRow, clauseRow, loadRow, openValues, stateValues, stateLevels}
+use Rattle.judging.specs.declared.reached.Reached.{Reached}
+use Rattle.judging.specs.declared.reached.Space.{Space}
+use Rattle.judging.specs.States.{start, added, kindIn, sizeIn, partsIn, after}
+use Rattle.judging.specs.Judging.{partsInOrder}
+use Rattle.judging.specs.Books.{afterAll, passes, allPass}
+use Rattle.judging.proofs.Sequences.{may-phase}
+use Rattle.judging.proofs.Counts.{Held, held as room}
+use Rattle.judging.proofs.Accepted.{passing}
+use Rattle.forms.specs.Entries.{Contents, noEntries, entriesOf, store, storeForms, joined, entriesFrom, bookEntries, over, filled}
+use Rattle.forms.specs.Entries.{literalsIn, termsIn, ruleRow, clauseRow, loadRow, openValues, stateValues, stateLevels}
 use Rattle.booktext.specs.Answers.{spaceOf}
-use Rattle.booktext.specs.Books.{afterAll, passes, allPass}
-use Rattle.booktext.proofs.Sequences.{may-phase}
-use Rattle.booktext.proofs.Counts.{Held, held as room}
-use Rattle.booktext.proofs.Accepted.{passing}
 
 -- A state counts the entries of each table.
 pub record Counts (s : Reached) (used : Contents) : Type 0 where

@@ -7,16 +7,16 @@ use lib.ListN.{length}
 use borrow.Author.Tests.{le-leb, lt-leb}
 use Rattle.tables.specs.declared.Fault.{Fault}
 use Rattle.tables.specs.declared.Fault.the-variants.{OutsideLimits}
+use Rattle.judging.specs.declared.reached.Reached.{Reached}
+use Rattle.judging.specs.declared.reached.Judged.{Judged}
+use Rattle.judging.specs.declared.reached.Judged.the-variants.{Passed, Failed}
+use Rattle.judging.specs.States.{start}
+use Rattle.judging.specs.Judging.{lines, judgeLines, judgeText, maxBytes, formsOf}
+use Rattle.judging.proofs.Accepted.{accepted-book, book-passed}
+use Rattle.forms.specs.Entries.{Contents, storeForms, bookEntries, filled}
+use Rattle.lines.specs.Walks.{passes, Walked}
 use Rattle.booktext.specs.declared.Book.{Book}
-use Rattle.booktext.specs.declared.reached.Reached.{Reached}
-use Rattle.booktext.specs.declared.walk.Judged.{Judged}
-use Rattle.booktext.specs.declared.walk.Judged.the-variants.{Passed, Failed}
-use Rattle.booktext.specs.States.{start}
-use Rattle.booktext.specs.Judging.{lines, judgeLines, judgeText, maxBytes}
-use Rattle.booktext.specs.Entries.{Contents, storeForms, bookEntries, filled}
-use Rattle.booktext.specs.Answers.{spaceOf, formsOf, answerOf, contentsAfter, Reads}
-use Rattle.booktext.specs.Shapes.{passes, Walked}
-use Rattle.booktext.proofs.Accepted.{accepted-book, book-passed}
+use Rattle.booktext.specs.Answers.{spaceOf, answerOf, contentsAfter, Reads}
 use Rattle.booktext.proofs.Filling.{stored-filled}
 
 module _ (text : List ℕ) (before : Contents) where

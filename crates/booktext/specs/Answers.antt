@@ -2,23 +2,20 @@
 use Prim.Native.Nat.{ℕ}
 use mathlib.Core.Path.{_≡_}
 use mathlib.Core.Bool.{cond}
-use mathlib.Core.List.{List, [], _∷_}
+use mathlib.Core.List.{List}
 use lib.Dec.{eqb}
-use lib.IntN.{ℤ}
 use lib.ListN.{length}
 use Rattle.tables.specs.declared.Verdict.the-variants.{Accepted, Refused}
 use Rattle.format.specs.Forms.{Form}
-use Rattle.format.specs.Parse.{Reading, got, refused}
+use Rattle.judging.specs.declared.reached.Space.{Space}
+use Rattle.judging.specs.declared.reached.Judged.{Judged}
+use Rattle.judging.specs.declared.reached.Judged.the-variants.{Passed, Failed}
+use Rattle.judging.specs.Judging.{judgeText, formsOf}
+use Rattle.judging.specs.States.{openStood, claimStood}
+use Rattle.forms.specs.Entries.{Contents, bookEntries, filled}
 use Rattle.booktext.specs.declared.StateForm.{StateForm}
 use Rattle.booktext.specs.declared.StateForm.the-variants.{NoState, OpenState, ClaimState}
 use Rattle.booktext.specs.declared.Book.{Book}
-use Rattle.booktext.specs.declared.reached.Reached.{Reached}
-use Rattle.booktext.specs.declared.reached.Space.{Space}
-use Rattle.booktext.specs.declared.walk.Judged.{Judged}
-use Rattle.booktext.specs.declared.walk.Judged.the-variants.{Passed, Failed}
-use Rattle.booktext.specs.Judging.{LineText, lines, formIn, judgeText}
-use Rattle.booktext.specs.States.{openStood, claimStood, start, after}
-use Rattle.booktext.specs.Entries.{Contents, bookEntries, filled}
 
 -- The lengths of the lent tables.
 unfoldable pub spaceOf : Contents → Space
@@ -33,18 +30,6 @@ spaceOf held =
       values = length (held .values);
       levels = length (held .levels);
     }
-
--- The forms of a text, line by line up to one that is no form. Of an accepted text these are all its lines.
-unfoldable pub consRead : Reached → Reading Form → (Reached → List Form) → List Form
-consRead s (got f rest) later = f ∷ later (after s f)
-consRead s refused later = []
-
-unfoldable pub formsFrom : Reached → List LineText → List Form
-formsFrom s [] = []
-formsFrom s (line ∷ more) = consRead s (formIn s line) (λ t. formsFrom t more)
-
-unfoldable pub formsOf : List ℕ → List Form
-formsOf text = formsFrom start (lines text)
 
 -- The state form that a text has ended with, and the paper's number of each.
 unfoldable pub stateOf : ℕ → StateForm
@@ -75,20 +60,6 @@ answerOf (Failed fault at) =
 unfoldable pub contentsAfter : Judged → List Form → Contents → Contents
 contentsAfter (Passed s) forms held = filled (bookEntries forms) held
 contentsAfter (Failed fault at) forms held = held
-
--- The lent tables, at entry or at exit.
-unfoldable pub lentTables : List ℕ → List ℕ → List ℕ → List ℤ → List ℕ → List ℤ → List ℕ → List ℕ → Contents
-lentTables rules literals clauses loads loadLiterals minutes values levels =
-    record {
-      rules = rules;
-      literals = literals;
-      clauses = clauses;
-      loads = loads;
-      loadLiterals = loadLiterals;
-      minutes = minutes;
-      values = values;
-      levels = levels;
-    }
 
 -- What `read` promises of its answer and of the tables afterwards.
 pub record Reads (text : List ℕ) (before : Contents) (answer : Book) (afterwards : Contents) : Type 0 where

@@ -1,22 +1,16 @@
 // The reader of book texts.
 ghost use mathlib.Core.Path.{_≡_};
-ghost use Rattle.booktext.specs.declared.walk.Judged.the-variants.{Failed};
-ghost use Rattle.booktext.specs.Answers.{stateNumber, stateOf, answerOf, lentTables, Reads};
-
-mod forms;
-mod lists;
-mod reached;
-mod stores;
-mod walk;
-
-use reached::CLAIM_STOOD;
-use reached::OPEN_STOOD;
-use reached::Space;
+ghost use Rattle.judging.specs.declared.reached.Judged.the-variants.{Failed};
+ghost use Rattle.forms.specs.Entries.{lentTables};
+ghost use Rattle.booktext.specs.Answers.{stateNumber, stateOf, answerOf, Reads};
+use judging::reached::CLAIM_STOOD;
+use judging::reached::Judged;
+use judging::reached::OPEN_STOOD;
+use judging::reached::Space;
+use lines::judge;
+use lines::walk;
 use tables::Fault;
 use tables::Verdict;
-use walk::Judged;
-use walk::judge;
-use walk::walk;
 
 // A longer text is refused before anything in it is read.
 const MAX_BYTES: usize = 65535;

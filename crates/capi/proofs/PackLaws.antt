@@ -18,21 +18,21 @@ use Rattle.tables.specs.Limits.{maxAtoms}
 use Rattle.tables.specs.Sound.{Tables}
 use Rattle.evaluator.specs.Evaluate.{evaluateOf, Answers}
 use Rattle.format.specs.Forms.{Form}
+use Rattle.judging.specs.declared.reached.Reached.{Reached}
+use Rattle.judging.specs.declared.reached.Space.{Space}
+use Rattle.judging.specs.declared.reached.Judged.{Judged}
+use Rattle.judging.specs.declared.reached.Judged.the-variants.{Passed, Failed}
+use Rattle.judging.specs.States.{start, after}
+use Rattle.judging.specs.Judging.{judgeText}
+use Rattle.judging.specs.Books.{afterAll, passes, allPass}
+use Rattle.judging.proofs.StateLaws.{after-size}
+use Rattle.judging.proofs.Counts.{Counted, counted as counts-of}
+use Rattle.judging.proofs.Accepted.{accepted-book, book-passed}
+use Rattle.forms.specs.Entries.{Contents}
 use Rattle.booktext.specs.declared.StateForm.{StateForm}
 use Rattle.booktext.specs.declared.StateForm.the-variants.{NoState, OpenState, ClaimState}
 use Rattle.booktext.specs.declared.Book.{Book}
-use Rattle.booktext.specs.declared.reached.Reached.{Reached}
-use Rattle.booktext.specs.declared.reached.Space.{Space}
-use Rattle.booktext.specs.declared.walk.Judged.{Judged}
-use Rattle.booktext.specs.declared.walk.Judged.the-variants.{Passed, Failed}
-use Rattle.booktext.specs.States.{start, after}
-use Rattle.booktext.specs.Judging.{judgeText}
-use Rattle.booktext.specs.Books.{afterAll, passes, allPass}
-use Rattle.booktext.specs.Entries.{Contents}
 use Rattle.booktext.specs.Answers.{spaceOf, stateNumber, answerOf, Reads}
-use Rattle.booktext.proofs.StateLaws.{after-size}
-use Rattle.booktext.proofs.Counts.{Counted, counted as counts-of}
-use Rattle.booktext.proofs.Accepted.{accepted-book, book-passed}
 use Rattle.outcome.proofs.Bounds.{evaluate-position, evaluate-rounds, text-position}
 use Rattle.capi.specs.Packing.{packed, packedRounds, counted, WithinBook, noAnswer, EvaluatedForC, sevenPlaces, ReadForC}
 

@@ -10,10 +10,10 @@ use Rattle.tables.specs.Faults.{numberOf, positionOf}
 use Rattle.tables.specs.Limits.{maxAtoms, maxRuleRows, maxClauseRows, maxLiterals, maxLoadRows, maxTerms}
 use Rattle.tables.specs.Rows.{ruleWidth, clauseWidth}
 use Rattle.tables.specs.Loads.{loadWidth}
+use Rattle.judging.specs.Judging.{formsOf, judgeText}
+use Rattle.forms.specs.Entries.{Contents}
 use Rattle.booktext.specs.declared.Book.{Book}
-use Rattle.booktext.specs.Entries.{Contents}
-use Rattle.booktext.specs.Answers.{stateNumber, answerOf, spaceOf, contentsAfter, formsOf}
-use Rattle.booktext.specs.Judging.{judgeText}
+use Rattle.booktext.specs.Answers.{stateNumber, answerOf, spaceOf, contentsAfter}
 use Rattle.evaluator.specs.Evaluate.{Evaluation}
 
 -- The verdict's number × 65,536 + its position; 0 if accepted.

@@ -6,7 +6,7 @@ ghost use Rattle.tables.specs.Faults.{positionOf};
 ghost use Rattle.tables.specs.Sound.{lent};
 ghost use Rattle.checker.specs.Check.{checkOf};
 ghost use Rattle.evaluator.specs.Evaluate.{evaluateOf};
-ghost use Rattle.booktext.specs.Answers.{lentTables};
+ghost use Rattle.forms.specs.Entries.{lentTables};
 ghost use Rattle.outcome.specs.Outcomes.{outcomeOf};
 ghost use Rattle.capi.specs.Packing.{packed, counted, WithinBook, EvaluatedForC, ReadForC};
 use booktext::Book;

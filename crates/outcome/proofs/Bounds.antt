@@ -35,16 +35,16 @@ use Rattle.tables.proofs.SoundTables.{sizes-fault}
 use Rattle.checker.specs.Check.{valueTest, levelTest, supportTest, blockingTest, levelTests, claimTests, checkTests, checkOf}
 use Rattle.evaluator.specs.Evaluate.{badSetting, settingTest, undecidedTest, refusalTests, modelTests, evaluated, stoppedOr, evaluateOf}
 use Rattle.format.specs.Forms.{lineEnd, render, renderAll}
+use Rattle.judging.specs.declared.reached.Space.{Space}
+use Rattle.judging.specs.declared.reached.Judged.{Judged}
+use Rattle.judging.specs.declared.reached.Judged.the-variants.{Passed, Failed}
+use Rattle.judging.specs.Judging.{judgeText, formsOf}
+use Rattle.judging.specs.Books.{FirstRefused, tooLong, noForm, notPassing, noState}
+use Rattle.judging.proofs.Refusals.{refused-first}
+use Rattle.forms.specs.Entries.{bookEntries}
 use Rattle.booktext.specs.declared.StateForm.{StateForm}
 use Rattle.booktext.specs.declared.StateForm.the-variants.{NoState, OpenState, ClaimState}
-use Rattle.booktext.specs.declared.reached.Space.{Space}
-use Rattle.booktext.specs.declared.walk.Judged.{Judged}
-use Rattle.booktext.specs.declared.walk.Judged.the-variants.{Passed, Failed}
-use Rattle.booktext.specs.Judging.{judgeText}
-use Rattle.booktext.specs.Entries.{bookEntries}
-use Rattle.booktext.specs.Answers.{answerOf, formsOf}
-use Rattle.booktext.specs.Books.{FirstRefused, tooLong, noForm, notPassing, noState}
-use Rattle.booktext.proofs.Refusals.{refused-first}
+use Rattle.booktext.specs.Answers.{answerOf}
 use Rattle.outcome.specs.Outcomes.{fullSpace, TextOutcome, verdictAlone, unlessStopped, evaluationOutcome, bookOutcome, answerOutcome, outcomeOf}
 
 -- ── Positions of faults ──

@@ -29,20 +29,20 @@ use Rattle.tables.specs.Satisfied.{satisfactionTests, clauseTest, loadTest}
 use Rattle.checker.specs.Check.{checkOf}
 use Rattle.evaluator.specs.Evaluate.{settingTest, undecidedTest, refusalTests, modelTests, evaluated, stoppedOr, evaluateOf, Answers}
 use Rattle.format.specs.Forms.{Form}
+use Rattle.judging.specs.declared.reached.Reached.{Reached}
+use Rattle.judging.specs.declared.reached.Space.{Space}
+use Rattle.judging.specs.declared.reached.Judged.{Judged}
+use Rattle.judging.specs.declared.reached.Judged.the-variants.{Passed, Failed}
+use Rattle.judging.specs.States.{openStood, claimStood, start, after}
+use Rattle.judging.specs.Judging.{judgeText, formsOf}
+use Rattle.judging.specs.Books.{afterAll, passes, allPass}
+use Rattle.judging.proofs.StateLaws.{after-size}
+use Rattle.judging.proofs.Accepted.{accepted-book, book-passed}
+use Rattle.forms.specs.Entries.{Contents, bookEntries, over, filled}
 use Rattle.booktext.specs.declared.StateForm.{StateForm}
 use Rattle.booktext.specs.declared.StateForm.the-variants.{NoState, OpenState, ClaimState}
 use Rattle.booktext.specs.declared.Book.{Book}
-use Rattle.booktext.specs.declared.reached.Reached.{Reached}
-use Rattle.booktext.specs.declared.reached.Space.{Space}
-use Rattle.booktext.specs.declared.walk.Judged.{Judged}
-use Rattle.booktext.specs.declared.walk.Judged.the-variants.{Passed, Failed}
-use Rattle.booktext.specs.States.{openStood, claimStood, start, after}
-use Rattle.booktext.specs.Judging.{judgeText}
-use Rattle.booktext.specs.Books.{afterAll, passes, allPass}
-use Rattle.booktext.specs.Entries.{Contents, bookEntries, over, filled}
-use Rattle.booktext.specs.Answers.{spaceOf, formsOf, stateOf, answerOf, contentsAfter, Reads}
-use Rattle.booktext.proofs.StateLaws.{after-size}
-use Rattle.booktext.proofs.Accepted.{accepted-book, book-passed}
+use Rattle.booktext.specs.Answers.{spaceOf, stateOf, answerOf, contentsAfter, Reads}
 use Rattle.booktext.proofs.Filling.{Counts, Stood, used-counts, used-stood}
 use Rattle.outcome.specs.Outcomes.{fullSpace, verdictAlone, unlessStopped, evaluationOutcome, tablesOf, usedParts, bookOutcome}
 use Rattle.outcome.specs.Outcomes.{answerOutcome, outcomeOf, modelFault, isMade, Comes, Roomy, FitsBook}

@@ -17,13 +17,13 @@ use Rattle.tables.specs.Sound.{Tables, lent}
 use Rattle.checker.specs.Check.{checkOf}
 use Rattle.evaluator.specs.Evaluate.{refusalTests, Evaluation, evaluated}
 use Rattle.format.specs.Forms.{Form}
+use Rattle.judging.specs.declared.reached.Space.{Space}
+use Rattle.judging.specs.Judging.{formsOf, judgeText}
+use Rattle.forms.specs.Entries.{Contents, bookEntries, over}
 use Rattle.booktext.specs.declared.StateForm.{StateForm}
 use Rattle.booktext.specs.declared.StateForm.the-variants.{NoState, OpenState, ClaimState}
-use Rattle.booktext.specs.declared.reached.Space.{Space}
 use Rattle.booktext.specs.declared.Book.{Book}
-use Rattle.booktext.specs.Entries.{Contents, bookEntries, over}
-use Rattle.booktext.specs.Answers.{formsOf, answerOf}
-use Rattle.booktext.specs.Judging.{judgeText}
+use Rattle.booktext.specs.Answers.{answerOf}
 
 -- Tables of full size, which hold every book.
 unfoldable pub fullSpace : Space

@@ -4,7 +4,7 @@ ghost use Prim.Native.Nat.{_≤_};
 ghost use lib.ListN.{length};
 ghost use Rattle.tables.specs.Limits.{maxAtoms};
 ghost use Rattle.tables.specs.Sound.{lent};
-ghost use Rattle.booktext.specs.Answers.{lentTables};
+ghost use Rattle.forms.specs.Entries.{lentTables};
 ghost use Rattle.outcome.specs.Outcomes.{isMade, evaluationOutcome, bookOutcome, outcomeOf, usedParts, Comes, Roomy, FitsBook};
 use booktext::Book;
 use booktext::StateForm;

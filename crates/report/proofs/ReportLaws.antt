@@ -12,8 +12,8 @@ use borrow.Author.Tests.{le-leb, lt-leb}
 use Rattle.tables.specs.declared.Verdict.{Verdict}
 use Rattle.tables.specs.Faults.{positionOf}
 use Rattle.tables.specs.Limits.{maxAtoms}
+use Rattle.forms.specs.Entries.{over}
 use Rattle.booktext.specs.declared.StateForm.{StateForm}
-use Rattle.booktext.specs.Entries.{over}
 use Rattle.outcome.specs.Outcomes.{outcomeOf, isMade, Comes}
 use Rattle.outcome.proofs.Bounds.{outcome-bounded}
 use Rattle.page.specs.Pages.{pageOf, pageSize, Puts, Printable}

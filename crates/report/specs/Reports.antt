@@ -5,9 +5,9 @@ use mathlib.Core.Bool.{Bool, true, false, cond, _&&_}
 use mathlib.Core.List.{List}
 use lib.Dec.{leb}
 use lib.ListN.{length}
+use Rattle.forms.specs.Entries.{over}
 use Rattle.booktext.specs.declared.StateForm.{StateForm}
 use Rattle.booktext.specs.declared.StateForm.the-variants.{NoState, OpenState, ClaimState}
-use Rattle.booktext.specs.Entries.{over}
 use Rattle.outcome.specs.Outcomes.{TextOutcome, outcomeOf, isMade}
 use Rattle.page.specs.Pages.{pageOf, pageSize}
 

@@ -8,7 +8,7 @@ use native.Mathlib.Omega.{arith}
 use lib.Dec.{leb}
 use lib.ListN.{length, getD, take}
 use lib.Seq.{take-append-seam}
-use Rattle.booktext.specs.Entries.{over}
+use Rattle.forms.specs.Entries.{over}
 use borrow.Author.Tests.{leb-true, le-leb}
 use Rattle.wellfounded.proofs.Tests.{first, second}
 use Rattle.wellfounded.specs.Lists.{all}

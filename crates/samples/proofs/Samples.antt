@@ -20,10 +20,10 @@ use Rattle.format.specs.Forms.{decimalWith, decimal, signed, literalBytes, term
 use Rattle.format.specs.Parse.{andThen, parts, readParts, skip, isDigit, moreDigits, startsWithDigit, readNumber, negative, readSigned, readNegated, readLiteral, readTerm, readPair, readAtoms, readRule, readClause, readLoad, readOpen, readClaim, readAs, readForm, whole, parse, readLine}
 use Rattle.format.specs.Words.{startsWith, wordAt, wordOf, kindOf, kindAt}
 use Rattle.format.specs.Items.{codeOf, literalCode}
-use Rattle.booktext.specs.States.{start, added, kindIn, sizeIn, partsIn, after, countsWithin, fits}
-use Rattle.booktext.specs.Judging.{literalWithin, termWithin, pairWithin, boundWithin, atomBound, numbersWithin, withinLimits, between, mayFollow, risesFrom, partsInOrder, inOrder, judgeForm, prepend, lines, formIn, judgeReading, judgeLine, continued, judgeLines, judgeText}
-use Rattle.booktext.specs.Entries.{literalsIn, termsIn, ruleRow, clauseRow, loadRow, openValues, stateValues, stateLevels, entriesOf, joined, entriesFrom, bookEntries, filled}
-use Rattle.booktext.specs.Answers.{spaceOf, consRead, formsFrom, formsOf, stateOf, answerOf}
+use Rattle.judging.specs.States.{start, added, kindIn, sizeIn, partsIn, after, countsWithin, fits}
+use Rattle.judging.specs.Judging.{literalWithin, termWithin, pairWithin, boundWithin, atomBound, numbersWithin, withinLimits, between, mayFollow, risesFrom, partsInOrder, inOrder, judgeForm, prepend, lines, formIn, judgeReading, judgeLine, continued, judgeLines, judgeText, consRead, formsFrom, formsOf}
+use Rattle.forms.specs.Entries.{literalsIn, termsIn, ruleRow, clauseRow, loadRow, openValues, stateValues, stateLevels, entriesOf, joined, entriesFrom, bookEntries, filled}
+use Rattle.booktext.specs.Answers.{spaceOf, stateOf, answerOf}
 use Rattle.outcome.specs.Outcomes.{fullSpace, verdictAlone, unlessStopped, evaluationOutcome, tablesOf, usedParts, bookOutcome, answerOutcome, outcomeOf, modelFault, isMade}
 use Rattle.page.specs.Pages.{verdictLine, madeLine, atomLine, joinBelow, lineAt, levelLines, atomLines, pageOf}
 use Rattle.report.specs.Reports.{isOpenState, printsAtoms, outcomePage, reportOf}

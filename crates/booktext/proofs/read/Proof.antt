@@ -1,7 +1,8 @@
 -- `booktext::read` meets its contract: a text is judged first, and the walk fills the tables of one that passes.
 -- Assumes nothing.
 use borrow.Author.Needs.{needs}
-use Rattle.booktext.specs.Answers.{spaceOf, lentTables}
+use Rattle.forms.specs.Entries.{lentTables}
+use Rattle.booktext.specs.Answers.{spaceOf}
 use Rattle.booktext.proofs.ReadLaws.{read-long, read-refused, read-filled}
 use Rattle.booktext.proofs.read.Statement.{statement}
 use Rattle.booktext.proofs.read.Tie as tie

@@ -1,8 +1,7 @@
 -- `outcome::book_outcome` meets its contract: a claim is checked and an open form evaluated, from the used parts of the tables.
 -- Assumes nothing.
 use borrow.Author.Needs.{needs}
-use Rattle.booktext.specs.Entries.{Contents}
-use Rattle.booktext.specs.Answers.{lentTables}
+use Rattle.forms.specs.Entries.{Contents, lentTables}
 use Rattle.outcome.proofs.OutcomeLaws.{refused-comes, open-comes, claim-comes}
 use Rattle.outcome.proofs.book_outcome.Statement.{statement}
 use Rattle.outcome.proofs.book_outcome.Tie as tie

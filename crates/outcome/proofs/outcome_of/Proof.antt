@@ -2,7 +2,8 @@
 -- Assumes nothing.
 use mathlib.Core.Path.{refl}
 use borrow.Author.Needs.{needs}
-use Rattle.booktext.specs.Answers.{spaceOf, lentTables}
+use Rattle.forms.specs.Entries.{lentTables}
+use Rattle.booktext.specs.Answers.{spaceOf}
 use Rattle.outcome.specs.Outcomes.{fullSpace}
 use Rattle.outcome.proofs.OutcomeLaws.{text-read}
 use Rattle.outcome.proofs.outcome_of.Statement.{statement}

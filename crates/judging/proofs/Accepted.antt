@@ -1,0 +1,233 @@
+-- A text is accepted exactly if it is the rendering of a book, and then its forms are that book's.
+-- Assumes nothing.
+use Prim.Native.Nat.{ℕ, _≤_}
+use mathlib.Core.Path.{_≡_, refl, sym, ap, _∙_}
+use mathlib.Core.Bool.{Bool, true, false, cond, _&&_}
+use mathlib.Core.List.{List, [], _∷_, _++_, append-nil}
+use native.Mathlib.Omega.{arith}
+use lib.Dec.{eqb, leb, ltb}
+use lib.ListN.{length}
+use borrow.Author.Tests.{eqb-true, ne-eqb, leb-true, le-leb}
+use Rattle.wellfounded.specs.Lists.{all}
+use Rattle.wellfounded.proofs.Tests.{both, first, second}
+use Rattle.tables.specs.declared.Fault.the-variants.{OutsideLimits}
+use Rattle.format.specs.Forms.{Form, atomsForm, ruleForm, clauseForm, loadForm, openForm, claimForm, renderAll}
+use Rattle.judging.specs.declared.reached.Reached.{Reached}
+use Rattle.judging.specs.declared.reached.Space.{Space}
+use Rattle.judging.specs.declared.reached.Judged.{Judged}
+use Rattle.judging.specs.declared.reached.Judged.the-variants.{Passed, Failed}
+use Rattle.judging.specs.States.{openStood, start, added, kindIn, after, countsWithin, fits}
+use Rattle.judging.specs.Judging.{atomBound, numbersWithin, withinLimits, mayFollow, partsInOrder, inOrder, lines, judgeLines, judgeText, maxBytes, formsFrom, formsOf}
+use Rattle.judging.specs.Books.{afterAll, IsBook, BookText, passes, allPass, PassesUpTo}
+use Rattle.judging.proofs.Walking.{judge-passed, forms-all, Outcome, accepted, refusedAt, walked}
+use Rattle.judging.proofs.Sequences.{follows, between-use, may-phase, follows-sequence, sequence-follows}
+use Rattle.judging.proofs.Counts.{counts-before, held-fits, Blank, blank-start, blank-after, fits-before}
+
+-- What it is for a form to pass, part by part.
+pub record Passing (space : Space) (s : Reached) (f : Form) : Type 0 where
+  pub numbers : numbersWithin s f ≡ true
+  pub counts : countsWithin (after s f) ≡ true
+  pub follows : mayFollow (kindIn f) (s .phase) ≡ true
+  pub ordered : partsInOrder s f ≡ true
+  pub held : fits space (after s f) ≡ true
+
+module _ (space : Space) (s : Reached) (f : Form) where
+  pub passing : passes space s f ≡ true → Passing space s f
+  unfolding passes withinLimits inOrder
+  passing h =
+      let limits = first (withinLimits s f) (inOrder s f && fits space (after s f)) h in
+      let later = second (withinLimits s f) (inOrder s f && fits space (after s f)) h in
+      let order = first (inOrder s f) (fits space (after s f)) later in
+      record {
+        numbers = first (numbersWithin s f) (countsWithin (after s f)) limits;
+        counts = second (numbersWithin s f) (countsWithin (after s f)) limits;
+        follows = first (mayFollow (kindIn f) (s .phase)) (partsInOrder s f) order;
+        ordered = second (mayFollow (kindIn f) (s .phase)) (partsInOrder s f) order;
+        held = second (inOrder s f) (fits space (after s f)) later;
+      }
+
+  pub passing-passes : Passing space s f → passes space s f ≡ true
+  unfolding passes withinLimits inOrder
+  passing-passes p = simp (p .numbers, p .counts, p .follows, p .ordered, p .held)
+
+-- Once an atoms form stood, the number of atoms stays.
+module _ (s : Reached) where
+  phase-after : (f : Form) → 1 ≤ after s f .phase
+  unfolding after added kindIn
+  phase-after (atomsForm n) = omega arith
+  phase-after (ruleForm g ls) = omega arith
+  phase-after (clauseForm ls) = omega arith
+  phase-after (loadForm lo hi ts) = omega arith
+  phase-after (openForm atoms) = omega arith
+  phase-after (claimForm ps) = omega arith
+
+  size-after : (f : Form) → 1 ≤ s .phase → mayFollow (kindIn f) (s .phase) ≡ true → after s f .size ≡ s .size
+  unfolding after added kindIn mayFollow
+  size-after (atomsForm n) l h = absurd (omega (arith, eqb-true (s .phase) 0 h))
+  size-after (ruleForm g ls) l h = refl
+  size-after (clauseForm ls) l h = refl
+  size-after (loadForm lo hi ts) l h = refl
+  size-after (openForm atoms) l h = refl
+  size-after (claimForm ps) l h = refl
+
+size-kept : (s : Reached) (fs : List Form) → 1 ≤ s .phase → follows s fs ≡ true → s .size ≡ afterAll s fs .size
+unfolding afterAll follows
+size-kept s [] l h = refl
+size-kept s (f ∷ fs) l h =
+    sym (size-after s f l (first (mayFollow (kindIn f) (s .phase)) _ h))
+    ∙ size-kept (after s f) fs (phase-after s f) (second (mayFollow (kindIn f) (s .phase)) _ h)
+
+follows-end : (s : Reached) (fs : List Form) → follows s fs ≡ true → openStood ≤ afterAll s fs .phase
+unfolding afterAll follows
+follows-end s [] h = leb-true _ _ h
+follows-end s (f ∷ fs) h = follows-end (after s f) fs (second (mayFollow (kindIn f) (s .phase)) _ h)
+
+-- A form that may follow is tested alike in two states that agree on the number of atoms.
+module _ (s t : Reached) (agree : 1 ≤ s .phase → s .size ≡ t .size) (stood : 1 ≤ t .phase) where
+  bound-same : 1 ≤ s .phase → atomBound s ≡ atomBound t
+  unfolding atomBound
+  bound-same l = rw (ne-eqb (s .phase) 0 (λ e. omega arith), ne-eqb (t .phase) 0 (λ e. omega arith)) (agree l)
+
+  numbers-same : (f : Form) → mayFollow (kindIn f) (s .phase) ≡ true → numbersWithin s f ≡ numbersWithin t f
+  unfolding mayFollow kindIn numbersWithin
+  numbers-same (atomsForm n) h = refl
+  numbers-same (ruleForm g ls) h = refl
+  numbers-same (clauseForm ls) h = refl
+  numbers-same (loadForm lo hi ts) h = refl
+  numbers-same (openForm atoms) h = ap (λ (n : ℕ). all (λ atom. ltb atom n) atoms) (bound-same (between-use 1 3 (s .phase) h .0))
+  numbers-same (claimForm ps) h = refl
+
+  parts-same : (f : Form) → mayFollow (kindIn f) (s .phase) ≡ true → partsInOrder s f ≡ partsInOrder t f
+  unfolding mayFollow kindIn partsInOrder
+  parts-same (atomsForm n) h = refl
+  parts-same (ruleForm g ls) h = refl
+  parts-same (clauseForm ls) h = refl
+  parts-same (loadForm lo hi ts) h = refl
+  parts-same (openForm atoms) h = refl
+  parts-same (claimForm ps) h = ap (λ (n : ℕ). eqb (length ps) n) (agree (between-use 1 3 (s .phase) h .0))
+
+-- The tests of numbers and of parts, in the state at the end.
+pub record Tested (s : Reached) (fs : List Form) : Type 0 where
+  pub numbers : all (numbersWithin (afterAll s fs)) fs ≡ true
+  pub ordered : all (partsInOrder (afterAll s fs)) fs ≡ true
+
+-- Forms that pass may follow each other and pass the tests at the end; and the other way round.
+module _ (space : Space) where
+  passed-follows : (s : Reached) (fs : List Form) → allPass space s fs ≡ true → openStood ≤ afterAll s fs .phase → follows s fs ≡ true
+  unfolding allPass afterAll follows
+  passed-follows s [] h l = le-leb _ _ l
+  passed-follows s (f ∷ fs) h l =
+      both (mayFollow (kindIn f) (s .phase)) _ (passing space s f (first (passes space s f) _ h) .follows)
+      (passed-follows (after s f) fs (second (passes space s f) _ h) l)
+
+  passed-counts : (s : Reached) (fs : List Form) → allPass space s fs ≡ true → countsWithin s ≡ true → countsWithin (afterAll s fs) ≡ true
+  unfolding allPass afterAll
+  passed-counts s [] h c = c
+  passed-counts s (f ∷ fs) h c = passed-counts (after s f) fs (second (passes space s f) _ h) (passing space s f (first (passes space s f) _ h) .counts)
+
+  passed-held : (s : Reached) (fs : List Form) → allPass space s fs ≡ true → fits space s ≡ true → fits space (afterAll s fs) ≡ true
+  unfolding allPass afterAll
+  passed-held s [] h c = c
+  passed-held s (f ∷ fs) h c = passed-held (after s f) fs (second (passes space s f) _ h) (passing space s f (first (passes space s f) _ h) .held)
+
+  passed-tested : (s : Reached) (fs : List Form) → follows s fs ≡ true → allPass space s fs ≡ true → Tested s fs
+  unfolding allPass afterAll follows all
+  passed-tested s [] g h = record { numbers = refl; ordered = refl }
+  passed-tested s (f ∷ fs) g h =
+      let here = passing space s f (first (passes space s f) _ h) in
+      let later = passed-tested (after s f) fs (second (mayFollow (kindIn f) (s .phase)) _ g) (second (passes space s f) _ h) in
+      let end : 1 ≤ afterAll (after s f) fs .phase = omega (arith, follows-end s (f ∷ fs) g) in
+      let agree : 1 ≤ s .phase → s .size ≡ afterAll (after s f) fs .size = (λ l. size-kept s (f ∷ fs) l g) in
+      record {
+        numbers = both _ _ (sym (numbers-same s _ agree end f (here .follows)) ∙ here .numbers) (later .numbers);
+        ordered = both _ _ (sym (parts-same s _ agree end f (here .follows)) ∙ here .ordered) (later .ordered);
+      }
+
+  book-passes :
+      (s : Reached) (fs : List Form) → follows s fs ≡ true → Tested s fs → Blank s → countsWithin (afterAll s fs) ≡ true →
+      fits space (afterAll s fs) ≡ true → allPass space s fs ≡ true
+  unfolding allPass afterAll follows all
+  book-passes s [] g t b c k = refl
+  book-passes s (f ∷ fs) g t b c k =
+      let end = afterAll (after s f) fs in
+      let may = first (mayFollow (kindIn f) (s .phase)) _ g in
+      let onwards = second (mayFollow (kindIn f) (s .phase)) _ g in
+      let stood : 1 ≤ end .phase = omega (arith, follows-end s (f ∷ fs) g) in
+      let agree : 1 ≤ s .phase → s .size ≡ afterAll (after s f) fs .size = (λ l. size-kept s (f ∷ fs) l g) in
+      let blank = blank-after s f (may-phase f (s .phase) may) b in
+      let rest : Tested (after s f) fs = record { numbers = second (numbersWithin end f) _ (t .numbers); ordered = second (partsInOrder end f) _ (t .ordered) } in
+      both (passes space s f) _
+      (passing-passes space s f (record {
+        numbers = numbers-same s end agree stood f may ∙ first (numbersWithin end f) _ (t .numbers);
+        counts = counts-before (after s f) fs c;
+        follows = may;
+        ordered = parts-same s end agree stood f may ∙ first (partsInOrder end f) _ (t .ordered);
+        held = fits-before space (after s f) fs blank onwards k;
+      }))
+      (book-passes (after s f) fs onwards rest blank c k)
+
+-- Before the first line everything is within its limits and held.
+start-within : countsWithin start ≡ true
+unfolding countsWithin start
+start-within = refl
+
+start-held : (space : Space) → fits space start ≡ true
+unfolding start
+start-held space =
+    held-fits space start (record {
+      rules = omega arith;
+      literals = omega arith;
+      clauses = omega arith;
+      loads = omega arith;
+      loadLiterals = omega arith;
+      minutes = omega arith;
+      values = omega arith;
+      levels = omega arith;
+    })
+
+-- Forms pass in turn up to a state form exactly if they are a book.
+module _ (space : Space) (fs : List Form) where
+  pub passed-book : PassesUpTo space fs → openStood ≤ afterAll start fs .phase → IsBook space fs
+  passed-book p l =
+      let g = passed-follows space start fs (p .passed) l in
+      let t = passed-tested space start fs g (p .passed) in
+      record {
+        sequence = follows-sequence fs g;
+        numbers = t .numbers;
+        counts = passed-counts space start fs (p .passed) start-within;
+        ordered = t .ordered;
+        held = passed-held space start fs (p .passed) (start-held space);
+      }
+
+  pub book-passed : IsBook space fs → PassesUpTo space fs × (openStood ≤ afterAll start fs .phase)
+  book-passed b =
+      let g = sequence-follows fs (b .sequence) in
+      let t : Tested start fs = record { numbers = b .numbers; ordered = b .ordered } in
+      (record { passed = book-passes space start fs g t blank-start (b .counts) (b .held) }, follows-end start fs g)
+
+-- The accepted texts are the renderings of books.
+module _ (space : Space) (text : List ℕ) where
+  pub accepted-book :
+      (t : Reached) → judgeText space text ≡ Passed t → (fs : List Form) × BookText space text fs × (t ≡ afterAll start fs) × (formsOf text ≡ fs)
+  unfolding judgeText formsOf
+  accepted-book t e = step (leb (length text) maxBytes) refl e
+    where
+      found :
+          length text ≤ maxBytes → (j : Judged) → Outcome space text j → j ≡ Passed t →
+          (fs : List Form) × BookText space text fs × (t ≡ afterAll start fs) × (formsFrom start (lines text) ≡ fs)
+      found short j (accepted fs p whole l same) h =
+          (fs, record { rendered = whole; short = short; book = passed-book space fs p l }, cc, rw whole (forms-all start fs))
+      found short j (refusedAt fault at why same) h = let z : _≡_ {A = ℕ} 0 1 = cc in absurd (omega arith)
+
+      step :
+          (b : Bool) → leb (length text) maxBytes ≡ b → cond b (judgeLines space start 0 (lines text)) (Failed OutsideLimits 0) ≡ Passed t →
+          (fs : List Form) × BookText space text fs × (t ≡ afterAll start fs) × (formsFrom start (lines text) ≡ fs)
+      step true l h = let short = leb-true _ _ l in found short _ (walked space text short) h
+      step false l h = let z : _≡_ {A = ℕ} 0 1 = cc in absurd (omega arith)
+
+  pub book-accepted : (fs : List Form) → BookText space text fs → judgeText space text ≡ Passed (afterAll start fs)
+  unfolding judgeText judgeLines lines
+  book-accepted fs b =
+      let k = book-passed space fs (b .book) in
+      let whole : text ≡ renderAll fs ++ [] = b .rendered ∙ sym (append-nil (renderAll fs)) in
+      rw (le-leb (length text) maxBytes (b .short), whole) (judge-passed space start 0 fs [] (k .0 .passed) ∙ rw (le-leb openStood _ (k .1)))

@@ -1,0 +1,116 @@
+-- Laws of lines: the first line of a text is a form exactly if one is read at the text's front, and how judging goes on after it.
+-- Assumes nothing.
+use Prim.Native.Nat.{ℕ, suc, _+_}
+use mathlib.Core.Path.{_≡_, refl, ap, subst}
+use mathlib.Core.Bool.{Bool, true, false, cond}
+use mathlib.Core.List.{List, [], _∷_, _++_}
+use native.Mathlib.Omega.{arith}
+use lib.Dec.{eqb}
+use lib.ListN.{length}
+use borrow.Author.Tests.{eqb-true, not-true}
+use Rattle.wellfounded.specs.Lists.{all}
+use Rattle.wellfounded.proofs.Tests.{first, second}
+use Rattle.tables.specs.declared.Fault.the-variants.{Malformed}
+use Rattle.format.specs.Forms.{Form, lineEnd, render}
+use Rattle.format.specs.Parse.{Reading, got, refused, parse, readLine}
+use Rattle.format.proofs.Readings.{holds-use}
+use Rattle.format.proofs.Lines.{render-parse, parse-render, line-reads, line-written}
+use Rattle.format.proofs.Texts.{within, Inside, render-inside}
+use Rattle.judging.specs.declared.reached.Reached.{Reached}
+use Rattle.judging.specs.declared.reached.Space.{Space}
+use Rattle.judging.specs.declared.reached.Judged.the-variants.{Failed}
+use Rattle.judging.specs.States.{after}
+use Rattle.judging.specs.Judging.{LineText, prepend, lines, formIn, judgeForm, judgeReading, judgeLine, continued, judgeLines, consRead, formsFrom}
+
+-- Bytes that end no line are a line with the byte after them that does.
+pub lines-inside : (bytes rest : List ℕ) → Inside bytes → lines (bytes ++ (lineEnd ∷ rest)) ≡ record { bytes = bytes; ended = true } ∷ lines rest
+unfolding lines prepend all
+lines-inside [] rest h = refl
+lines-inside (b ∷ bytes) rest h =
+    rw (not-true (eqb b lineEnd) (first (within b) _ h), lines-inside bytes rest (second (within b) _ h))
+
+pub lines-line : (f : Form) (rest : List ℕ) → lines (render f ++ (lineEnd ∷ rest)) ≡ record { bytes = render f; ended = true } ∷ lines rest
+lines-line f rest = lines-inside (render f) rest (render-inside f)
+
+pub form-line : (s : Reached) (f : Form) → formIn s (record { bytes = render f; ended = true }) ≡ got f []
+unfolding formIn
+form-line s f = parse-render f
+
+-- What is read at the front is the rendering of its form.
+pub line-formed : (bytes : List ℕ) (f : Form) (rest : List ℕ) → readLine bytes ≡ got f rest → bytes ≡ render f ++ (lineEnd ∷ rest)
+line-formed bytes f rest e = holds-use (λ g end. bytes ≡ render g ++ (lineEnd ∷ end)) (line-written bytes) e
+
+-- The first line of some bytes, with what comes after it if it is ended.
+abbrev Front : List ℕ → List LineText → Type 0
+Front bytes [] = bytes ≡ []
+Front bytes (line ∷ more) = line .ended ≡ true → (rest : List ℕ) × (bytes ≡ line .bytes ++ (lineEnd ∷ rest)) × (more ≡ lines rest)
+
+front-prepend : (b : ℕ) (bytes : List ℕ) (ls : List LineText) → Front bytes ls → Front (b ∷ bytes) (prepend b ls)
+unfolding prepend
+front-prepend b bytes [] h = λ e. let z : _≡_ {A = ℕ} 0 1 = cc in absurd (omega arith)
+front-prepend b bytes (line ∷ more) h = λ e. let k = h e in (k .0, ap (λ (l : List ℕ). b ∷ l) (k .1), k .2)
+
+lines-front : (bytes : List ℕ) → Front bytes (lines bytes)
+unfolding lines
+lines-front [] = refl
+lines-front (b ∷ bytes) = step (eqb b lineEnd) refl (front-prepend b bytes (lines bytes) (lines-front bytes))
+  where
+    step :
+        (t : Bool) → eqb b lineEnd ≡ t → Front (b ∷ bytes) (prepend b (lines bytes)) →
+        Front (b ∷ bytes) (cond t (record { bytes = []; ended = true } ∷ lines bytes) (prepend b (lines bytes)))
+    step true e k = λ u. (bytes, ap (λ (c : ℕ). c ∷ bytes) (eqb-true b lineEnd e), refl)
+    step false e k = k
+
+-- Where nothing is read at the front, the first line is no form.
+module _ (s : Reached) (bytes : List ℕ) (none : readLine bytes ≡ refused) where
+  not-parsed : (line : LineText) (rest : List ℕ) (r : Reading Form) → bytes ≡ line .bytes ++ (lineEnd ∷ rest) → parse (line .bytes) ≡ r → r ≡ refused
+  not-parsed line rest (got f end) e p =
+      let whole : bytes ≡ render f ++ (lineEnd ∷ rest) = rw (render-parse (line .bytes) f end p .0) e in
+      let z : _≡_ {A = ℕ} 0 1 = cc (line-reads f rest) in
+      absurd (omega arith)
+  not-parsed line rest refused e p = refl
+
+  not-form :
+      (line : LineText) (more : List LineText) (t : Bool) → line .ended ≡ t → Front bytes (line ∷ more) →
+      cond t (parse (line .bytes)) refused ≡ refused
+  not-form line more true e front = let k = front e in not-parsed line (k .0) (parse (line .bytes)) (k .1) refl
+  not-form line more false e front = refl
+
+  first-refused : (line : LineText) (more : List LineText) → lines bytes ≡ line ∷ more → formIn s line ≡ refused
+  unfolding formIn
+  first-refused line more e =
+      not-form line more (line .ended) refl (subst (λ (ls : List LineText). Front bytes ls) e (lines-front bytes))
+
+pub line-refused :
+    (s : Reached) (b : ℕ) (bs : List ℕ) → readLine (b ∷ bs) ≡ refused →
+    (line : LineText) × (more : List LineText) × (lines (b ∷ bs) ≡ line ∷ more) × (formIn s line ≡ refused)
+line-refused s b bs none = step (lines (b ∷ bs)) refl
+  where
+    step :
+        (ls : List LineText) → lines (b ∷ bs) ≡ ls →
+        (line : LineText) × (more : List LineText) × (lines (b ∷ bs) ≡ line ∷ more) × (formIn s line ≡ refused)
+    step [] e =
+        let empty : b ∷ bs ≡ [] = subst (λ (ls : List LineText). Front (b ∷ bs) ls) e (lines-front (b ∷ bs)) in
+        let z : _≡_ {A = ℕ} 0 1 = cc in
+        absurd (omega arith)
+    step (line ∷ more) e = (line, more, e, first-refused s (b ∷ bs) none line more e)
+
+-- Judging a text whose first line is a form, and one whose first line is none.
+pub judge-line :
+    (space : Space) (s : Reached) (at : ℕ) (f : Form) (rest : List ℕ) →
+    judgeLines space s at (lines (render f ++ (lineEnd ∷ rest)))
+    ≡ continued at (judgeForm space s f) (λ t. judgeLines space t (at + suc (length (render f))) (lines rest))
+unfolding judgeLines judgeLine judgeReading
+judge-line space s at f rest = rw (lines-line f rest, form-line s f)
+
+pub judge-refused :
+    (space : Space) (s : Reached) (at b : ℕ) (bs : List ℕ) → readLine (b ∷ bs) ≡ refused →
+    judgeLines space s at (lines (b ∷ bs)) ≡ Failed Malformed at
+unfolding judgeLines judgeLine judgeReading continued
+judge-refused space s at b bs none = let k = line-refused s b bs none in rw (k .2, k .3)
+
+-- The forms of a text whose first line is one.
+pub forms-line :
+    (s : Reached) (f : Form) (rest : List ℕ) → formsFrom s (lines (render f ++ (lineEnd ∷ rest))) ≡ f ∷ formsFrom (after s f) (lines rest)
+unfolding formsFrom consRead
+forms-line s f rest = rw (lines-line f rest, form-line s f)

@@ -1,0 +1,187 @@
+-- What a refusal says: the forms before its position pass, and the fault tells what comes there; and no full set of tables is refused for its space.
+-- Assumes nothing.
+use Prim.Native.Nat.{ℕ, _+_, _≤_, _<_}
+use mathlib.Core.Path.{_≡_, refl, sym, ap, _∙_}
+use mathlib.Core.Bool.{Bool, true, false, cond}
+use mathlib.Core.List.{List, [], _∷_, _++_, append-nil}
+use native.Mathlib.Omega.{arith}
+use lib.Dec.{leb}
+use lib.ListN.{length}
+use borrow.Author.Tests.{leb-true, leb-false, le-leb, lt-leb}
+use Rattle.wellfounded.proofs.Tests.{first, second, clash}
+use Rattle.tables.specs.declared.Fault.{Fault}
+use Rattle.tables.specs.declared.Fault.the-variants.{Malformed, OutsideLimits, OutOfOrder, NoSpace}
+use Rattle.format.specs.Forms.{Form, atomsForm, ruleForm, clauseForm, loadForm, openForm, claimForm, lineEnd, render, renderAll}
+use Rattle.format.specs.Parse.{Reading, got, refused, readLine}
+use Rattle.judging.specs.declared.reached.Reached.{Reached}
+use Rattle.judging.specs.declared.reached.Space.{Space}
+use Rattle.judging.specs.declared.reached.Judged.{Judged}
+use Rattle.judging.specs.declared.reached.Judged.the-variants.{Failed}
+use Rattle.judging.specs.States.{openStood, start, added, kindIn, sizeIn, after, countsWithin, fits}
+use Rattle.judging.specs.Judging.{numbersWithin, withinLimits, inOrder, on, stop, judgeForm, lines, continued, judgeLines, judgeText, maxBytes}
+use Rattle.judging.specs.Books.{afterAll, passes, allPass, PassesUpTo, NoRoom, FullSpace}
+use Rattle.judging.specs.Books.{FirstRefused, tooLong, noForm, notPassing, noState}
+use Rattle.judging.proofs.LineLaws.{line-formed, judge-line, judge-refused}
+use Rattle.judging.proofs.Walking.{after-more, judge-passed, Outcome, accepted, refusedAt, walked}
+use Rattle.judging.proofs.Counts.{counted, held-fits}
+use Rattle.judging.proofs.Accepted.{passing}
+
+module _ (space : Space) (text : List ℕ) (fault : Fault) (at : ℕ) where
+  -- Every refusal has its reason.
+  pub refused-first : judgeText space text ≡ Failed fault at → FirstRefused space text fault at
+  unfolding judgeText
+  refused-first e = step (leb (length text) maxBytes) refl e
+    where
+      found : (j : Judged) → Outcome space text j → j ≡ Failed fault at → FirstRefused space text fault at
+      found j (accepted fs p whole l same) h = let z : _≡_ {A = ℕ} 0 1 = cc in absurd (omega arith)
+      found j (refusedAt fault′ at′ why same) h =
+          let faults : fault′ ≡ fault = cc in
+          let places : at′ ≡ at = cc in
+          rw (← faults, ← places) why
+
+      step :
+          (b : Bool) → leb (length text) maxBytes ≡ b → cond b (judgeLines space start 0 (lines text)) (Failed OutsideLimits 0) ≡ Failed fault at →
+          FirstRefused space text fault at
+      step true l h = found _ (walked space text (leb-true _ _ l)) h
+      step false l h = tooLong (record { long = leb-false _ _ l; told = cc; position = cc })
+
+  -- A text that is not too long is judged from after the forms that pass.
+  module _ (short : length text ≤ maxBytes) (before : List Form) (rest : List ℕ) (p : PassesUpTo space before) (whole : text ≡ renderAll before ++ rest) where
+    judged-after : judgeText space text ≡ judgeLines space (afterAll start before) (length (renderAll before)) (lines rest)
+    unfolding judgeText
+    judged-after =
+        let e : 0 + length (renderAll before) ≡ length (renderAll before) = omega arith in
+        rw (le-leb (length text) maxBytes short, whole) (rw e at (judge-passed space start 0 before rest (p .passed)))
+
+  none-read : (rest : List ℕ) → ((f : Form) (later : List ℕ) → rest ≡ render f ++ (lineEnd ∷ later) → ⊥) → readLine rest ≡ refused
+  none-read rest none = step (readLine rest) refl
+    where
+      step : (r : Reading Form) → readLine rest ≡ r → r ≡ refused
+      step (got f later) e = absurd (none f later (line-formed rest f later e))
+      step refused e = refl
+
+  front-refused :
+      (s : Reached) (place : ℕ) (rest : List ℕ) → 0 < length rest → readLine rest ≡ refused →
+      judgeLines space s place (lines rest) ≡ Failed Malformed place
+  front-refused s place [] l none = absurd (omega arith)
+  front-refused s place (b ∷ bs) l none = judge-refused space s place b bs none
+
+  -- Every reason is told as such.
+  pub first-refused : FirstRefused space text fault at → judgeText space text ≡ Failed fault at
+  unfolding judgeText judgeLines lines continued
+  first-refused (tooLong k) = rw (lt-leb (length text) maxBytes (k .long), k .told, k .position)
+  first-refused (noForm k) =
+      judged-after (k .short) (k .before) (k .rest) (k .passing) (k .whole)
+      ∙ (front-refused _ _ (k .rest) (k .some) (none-read (k .rest) (k .unread)) ∙ rw (k .told, k .position))
+  first-refused (notPassing k) =
+      judged-after (k .short) (k .before) _ (k .passing) (k .whole)
+      ∙ (judge-line space (afterAll start (k .before)) (length (renderAll (k .before))) (k .form) (k .rest) ∙ rw (k .stopped, k .position))
+  first-refused (noState k) =
+      judged-after (k .short) (k .forms) [] (k .passing) (k .whole ∙ sym (append-nil (renderAll (k .forms))))
+      ∙ rw (lt-leb openStood (afterAll start (k .forms) .phase) (k .missing), k .told, k .position, k .whole)
+
+-- A form is refused for space exactly if it is within its limits and in order.
+module _ (space : Space) (s : Reached) (f : Form) where
+  no-space-form : judgeForm space s f ≡ stop NoSpace → (withinLimits s f ≡ true) × (inOrder s f ≡ true) × (fits space (after s f) ≡ false)
+  unfolding judgeForm
+  no-space-form h = step (withinLimits s f) (inOrder s f) (fits space (after s f)) h
+    where
+      step :
+          (a b c : Bool) → cond a (cond b (cond c (on (after s f)) (stop NoSpace)) (stop OutOfOrder)) (stop OutsideLimits) ≡ stop NoSpace →
+          (a ≡ true) × (b ≡ true) × (c ≡ false)
+      step true true true e = let z : _≡_ {A = ℕ} 0 1 = cc in absurd (omega arith)
+      step true true false e = (refl, refl, refl)
+      step true false c e = let z : _≡_ {A = ℕ} 0 1 = cc in absurd (omega arith)
+      step false b c e = let z : _≡_ {A = ℕ} 0 1 = cc in absurd (omega arith)
+
+  form-no-space : withinLimits s f ≡ true → inOrder s f ≡ true → fits space (after s f) ≡ false → judgeForm space s f ≡ stop NoSpace
+  unfolding judgeForm
+  form-no-space a b c = rw (a, b, c)
+
+-- A text is refused for space exactly if a lent table has no room for such a form.
+module _ (space : Space) (text : List ℕ) (at : ℕ) where
+  pub no-space : judgeText space text ≡ Failed NoSpace at → NoRoom space text at
+  no-space e = found NoSpace refl (refused-first space text NoSpace at e)
+    where
+      found : (fault : Fault) → fault ≡ NoSpace → FirstRefused space text fault at → NoRoom space text at
+      found fault h (tooLong k) = let z : _≡_ {A = ℕ} 0 1 = cc in absurd (omega arith)
+      found fault h (noForm k) = let z : _≡_ {A = ℕ} 0 1 = cc in absurd (omega arith)
+      found fault h (notPassing k) =
+          let why = no-space-form space (afterAll start (k .before)) (k .form) (k .stopped ∙ ap (λ (x : Fault). stop x) h) in
+          record {
+            short = k .short;
+            before = k .before;
+            form = k .form;
+            rest = k .rest;
+            passing = k .passing;
+            whole = k .whole;
+            position = k .position;
+            within = why .0;
+            ordered = why .1;
+            full = rw (after-more start (k .before) (k .form)) (why .2);
+          }
+      found fault h (noState k) = let z : _≡_ {A = ℕ} 0 1 = cc in absurd (omega arith)
+
+  pub space-missing : NoRoom space text at → judgeText space text ≡ Failed NoSpace at
+  space-missing k =
+      first-refused space text NoSpace at (notPassing (record {
+        short = k .short;
+        before = k .before;
+        form = k .form;
+        rest = k .rest;
+        passing = k .passing;
+        whole = k .whole;
+        stopped = form-no-space space (afterAll start (k .before)) (k .form) (k .within) (k .ordered) (rw (after-more start (k .before) (k .form)) at (k .full));
+        position = k .position;
+      }))
+
+-- The number of atoms, and with it values and levels, never exceed the most that a book has.
+record Sized (s : Reached) : Type 0 where
+  size : s .size ≤ 1024
+  values : s .values ≤ 1024
+  levels : s .levels ≤ 1024
+
+sized-start : Sized start
+unfolding start
+sized-start = record { size = omega arith; values = omega arith; levels = omega arith }
+
+sized-after : (s : Reached) (f : Form) → numbersWithin s f ≡ true → Sized s → Sized (after s f)
+unfolding after added kindIn sizeIn numbersWithin
+sized-after s (atomsForm n) h k = record { size = leb-true n 1024 h; values = k .values; levels = k .levels }
+sized-after s (ruleForm g ls) h k = record { size = k .size; values = k .values; levels = k .levels }
+sized-after s (clauseForm ls) h k = record { size = k .size; values = k .values; levels = k .levels }
+sized-after s (loadForm lo hi ts) h k = record { size = k .size; values = k .values; levels = k .levels }
+sized-after s (openForm atoms) h k = record { size = k .size; values = k .size; levels = k .levels }
+sized-after s (claimForm ps) h k = record { size = k .size; values = k .size; levels = k .size }
+
+module _ (space : Space) where
+  sized-all : (s : Reached) (fs : List Form) → allPass space s fs ≡ true → Sized s → Sized (afterAll s fs)
+  unfolding allPass afterAll
+  sized-all s [] h k = k
+  sized-all s (f ∷ fs) h k =
+      sized-all (after s f) fs (second (passes space s f) _ h) (sized-after s f (passing space s f (first (passes space s f) _ h) .numbers) k)
+
+  full-held : (s : Reached) → FullSpace space → countsWithin s ≡ true → Sized s → fits space s ≡ true
+  full-held s full c k =
+      let n = counted s c in
+      held-fits space s (record {
+        rules = omega arith;
+        literals = omega arith;
+        clauses = omega arith;
+        loads = omega arith;
+        loadLiterals = omega arith;
+        minutes = omega arith;
+        values = omega arith;
+        levels = omega arith;
+      })
+
+  -- Full tables are never too small.
+  pub full-space : (text : List ℕ) (at : ℕ) → FullSpace space → judgeText space text ≡ Failed NoSpace at → ⊥
+  unfolding withinLimits
+  full-space text at full e =
+      let k = no-space space text at e in
+      let s = afterAll start (k .before) in
+      let numbers = first (numbersWithin s (k .form)) (countsWithin (after s (k .form))) (k .within) in
+      let counts = second (numbersWithin s (k .form)) (countsWithin (after s (k .form))) (k .within) in
+      let sized = sized-after s (k .form) numbers (sized-all start (k .before) (k .passing .passed) sized-start) in
+      clash (full-held (after s (k .form)) full counts sized) (rw (after-more start (k .before) (k .form)) at (k .full))

@@ -1,0 +1,169 @@
+-- Which texts are accepted, said of the whole text at once; and what a refusal says.
+use Prim.Native.Nat.{ℕ, _*_, _≤_, _<_}
+use mathlib.Core.Path.{_≡_}
+use mathlib.Core.Bool.{Bool, true, false, _&&_}
+use mathlib.Core.List.{List, [], _∷_, _++_}
+use lib.ListN.{length}
+use Rattle.wellfounded.specs.Lists.{all}
+use Rattle.tables.specs.declared.Fault.{Fault}
+use Rattle.tables.specs.declared.Fault.the-variants.{Malformed, OutsideLimits, OutOfOrder}
+use Rattle.tables.specs.Limits.{maxAtoms, maxRuleRows, maxClauseRows, maxLiterals, maxLoadRows, maxTerms}
+use Rattle.tables.specs.Rows.{ruleWidth, clauseWidth}
+use Rattle.tables.specs.Loads.{loadWidth}
+use Rattle.format.specs.Forms.{Form, atomsForm, ruleForm, clauseForm, loadForm, openForm, claimForm, lineEnd, render, renderAll}
+use Rattle.judging.specs.declared.reached.Reached.{Reached}
+use Rattle.judging.specs.declared.reached.Space.{Space}
+use Rattle.judging.specs.States.{openStood, start, after, countsWithin, fits}
+use Rattle.judging.specs.Judging.{numbersWithin, withinLimits, partsInOrder, inOrder, stop, judgeForm, maxBytes}
+
+-- The state after some forms in turn.
+unfoldable pub afterAll : Reached → List Form → Reached
+afterAll s [] = s
+afterAll s (f ∷ fs) = afterAll (after s f) fs
+
+-- Whether a form is a rule, a clause, a load line, or one of the two that tell a state.
+unfoldable pub isRule : Form → Bool
+isRule (atomsForm n) = false
+isRule (ruleForm h ls) = true
+isRule (clauseForm ls) = false
+isRule (loadForm lo hi ts) = false
+isRule (openForm atoms) = false
+isRule (claimForm ps) = false
+
+unfoldable pub isClause : Form → Bool
+isClause (atomsForm n) = false
+isClause (ruleForm h ls) = false
+isClause (clauseForm ls) = true
+isClause (loadForm lo hi ts) = false
+isClause (openForm atoms) = false
+isClause (claimForm ps) = false
+
+unfoldable pub isLoad : Form → Bool
+isLoad (atomsForm n) = false
+isLoad (ruleForm h ls) = false
+isLoad (clauseForm ls) = false
+isLoad (loadForm lo hi ts) = true
+isLoad (openForm atoms) = false
+isLoad (claimForm ps) = false
+
+unfoldable pub isState : Form → Bool
+isState (atomsForm n) = false
+isState (ruleForm h ls) = false
+isState (clauseForm ls) = false
+isState (loadForm lo hi ts) = false
+isState (openForm atoms) = true
+isState (claimForm ps) = true
+
+-- The sequence of a book: its atoms, then rules, clauses and load lines, any number of each, and one state form at the end.
+pub record InSequence (fs : List Form) : Type 0 where
+  pub atoms : ℕ
+  pub rules : List Form
+  pub clauses : List Form
+  pub loads : List Form
+  pub state : Form
+  pub areRules : all isRule rules ≡ true
+  pub areClauses : all isClause clauses ≡ true
+  pub areLoads : all isLoad loads ≡ true
+  pub tellsState : isState state ≡ true
+  pub whole : fs ≡ atomsForm atoms ∷ (rules ++ (clauses ++ (loads ++ (state ∷ []))))
+
+-- Forms that are a book which the lent tables hold. Of the state at the end, the tests of numbers and of parts look only at N and at whether an
+-- atoms line stood.
+pub record IsBook (space : Space) (fs : List Form) : Type 0 where
+  pub sequence : InSequence fs
+  -- Every number is within its limit, and open atoms lie below N.
+  pub numbers : all (numbersWithin (afterAll start fs)) fs ≡ true
+  -- Rows, literals and terms are within the limits of a book.
+  pub counts : countsWithin (afterAll start fs) ≡ true
+  -- Open atoms rise, and claim pairs are N in number.
+  pub ordered : all (partsInOrder (afterAll start fs)) fs ≡ true
+  -- Each lent table has room for what the forms add to it.
+  pub held : fits space (afterAll start fs) ≡ true
+
+-- A text that is the rendering of a book.
+pub record BookText (space : Space) (text : List ℕ) (fs : List Form) : Type 0 where
+  pub rendered : text ≡ renderAll fs
+  pub short : length text ≤ maxBytes
+  pub book : IsBook space fs
+
+-- A form passes in a state if it is within its limits, in order and held; and forms pass in turn.
+unfoldable pub passes : Space → Reached → Form → Bool
+passes space s f = withinLimits s f && (inOrder s f && fits space (after s f))
+
+unfoldable pub allPass : Space → Reached → List Form → Bool
+allPass space s [] = true
+allPass space s (f ∷ fs) = passes space s f && allPass space (after s f) fs
+
+-- Forms that pass from the start on, whether or not more must follow.
+pub record PassesUpTo (space : Space) (before : List Form) : Type 0 where
+  pub passed : allPass space start before ≡ true
+
+-- A text is refused in four ways, each with its fault and its position. It may be too long.
+pub record TooLong (text : List ℕ) (fault : Fault) (at : ℕ) : Type 0 where
+  pub long : maxBytes < length text
+  pub told : fault ≡ OutsideLimits
+  pub position : at ≡ 0
+
+-- After forms that pass there may be bytes that begin with no form's line.
+pub record NoForm (space : Space) (text : List ℕ) (fault : Fault) (at : ℕ) : Type 0 where
+  pub short : length text ≤ maxBytes
+  pub before : List Form
+  pub rest : List ℕ
+  pub passing : PassesUpTo space before
+  pub whole : text ≡ renderAll before ++ rest
+  pub some : 0 < length rest
+  pub unread : (f : Form) (later : List ℕ) → rest ≡ render f ++ (lineEnd ∷ later) → ⊥
+  pub told : fault ≡ Malformed
+  pub position : at ≡ length (renderAll before)
+
+-- After forms that pass there may be one that does not.
+pub record NotPassing (space : Space) (text : List ℕ) (fault : Fault) (at : ℕ) : Type 0 where
+  pub short : length text ≤ maxBytes
+  pub before : List Form
+  pub form : Form
+  pub rest : List ℕ
+  pub passing : PassesUpTo space before
+  pub whole : text ≡ renderAll before ++ (render form ++ (lineEnd ∷ rest))
+  pub stopped : judgeForm space (afterAll start before) form ≡ stop fault
+  pub position : at ≡ length (renderAll before)
+
+-- All forms may pass, and the state form be missing.
+pub record NoStateForm (space : Space) (text : List ℕ) (fault : Fault) (at : ℕ) : Type 0 where
+  pub short : length text ≤ maxBytes
+  pub forms : List Form
+  pub passing : PassesUpTo space forms
+  pub whole : text ≡ renderAll forms
+  pub missing : afterAll start forms .phase < openStood
+  pub told : fault ≡ OutOfOrder
+  pub position : at ≡ length text
+
+-- How a text is refused, by the first thing in it that is.
+pub data FirstRefused (space : Space) (text : List ℕ) (fault : Fault) (at : ℕ) : Type 0 where
+  tooLong : TooLong text fault at → FirstRefused space text fault at
+  noForm : NoForm space text fault at → FirstRefused space text fault at
+  notPassing : NotPassing space text fault at → FirstRefused space text fault at
+  noState : NoStateForm space text fault at → FirstRefused space text fault at
+
+-- A lent table has no room for the first form that does not pass, though that form is within its limits and in order.
+pub record NoRoom (space : Space) (text : List ℕ) (at : ℕ) : Type 0 where
+  pub short : length text ≤ maxBytes
+  pub before : List Form
+  pub form : Form
+  pub rest : List ℕ
+  pub passing : PassesUpTo space before
+  pub whole : text ≡ renderAll before ++ (render form ++ (lineEnd ∷ rest))
+  pub position : at ≡ length (renderAll before)
+  pub within : withinLimits (afterAll start before) form ≡ true
+  pub ordered : inOrder (afterAll start before) form ≡ true
+  pub full : fits space (afterAll start (before ++ (form ∷ []))) ≡ false
+
+-- Lent tables that hold every book.
+pub record FullSpace (space : Space) : Type 0 where
+  pub rules : maxRuleRows * ruleWidth ≤ space .rules
+  pub literals : maxLiterals ≤ space .literals
+  pub clauses : maxClauseRows * clauseWidth ≤ space .clauses
+  pub loads : maxLoadRows * loadWidth ≤ space .loads
+  pub loadLiterals : maxTerms ≤ space .«load_literals»
+  pub minutes : maxTerms ≤ space .minutes
+  pub values : maxAtoms ≤ space .values
+  pub levels : maxAtoms ≤ space .levels

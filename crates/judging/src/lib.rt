@@ -1,0 +1,2 @@
+// How a text is judged, line by line.
+pub mod reached;

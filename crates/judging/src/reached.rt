@@ -1,0 +1,212 @@
+// The state that the lines read so far have reached, and how a line is judged in it.
+ghost use mathlib.Core.Path.{_≡_};
+ghost use mathlib.Core.Bool.{true};
+ghost use Prim.Native.Nat.{_≤_};
+ghost use Rattle.judging.specs.States.{start, added, countsWithin, fits};
+ghost use Rattle.judging.specs.Judging.{between, mayFollow};
+ghost use Rattle.judging.specs.Shapes.{orderOf, judgeShape, moved};
+use format::kinds::Kind;
+use tables::Fault;
+use tables::rows::CLAUSE_WIDTH;
+use tables::rows::LOAD_WIDTH;
+use tables::rows::RULE_WIDTH;
+use tables::sizes::MAX_CLAUSE_ENTRIES;
+use tables::sizes::MAX_LITERALS;
+use tables::sizes::MAX_LOAD_ENTRIES;
+use tables::sizes::MAX_RULE_ENTRIES;
+use tables::sizes::MAX_TERMS;
+
+// The phases of a text: nothing was read yet; rules, clauses or load lines were read last; an open form or a claim stood.
+pub const NOTHING_YET: usize = 0;
+
+pub const IN_RULES: usize = 1;
+
+pub const IN_CLAUSES: usize = 2;
+
+pub const IN_LOADS: usize = 3;
+
+pub const OPEN_STOOD: usize = 4;
+
+pub const CLAIM_STOOD: usize = 5;
+
+// The phase of the text, the number of atoms, and the entries counted for each table.
+pub struct Reached {
+    pub phase: usize,
+    pub size: usize,
+    pub rules: usize,
+    pub literals: usize,
+    pub clauses: usize,
+    pub loads: usize,
+    pub terms: usize,
+    pub values: usize,
+    pub levels: usize,
+}
+
+// How many entries each lent table has.
+pub struct Space {
+    pub rules: usize,
+    pub literals: usize,
+    pub clauses: usize,
+    pub loads: usize,
+    pub load_literals: usize,
+    pub minutes: usize,
+    pub values: usize,
+    pub levels: usize,
+}
+
+// What judging needs of a form: its kind, the number of atoms that it names, how many parts it lists, whether its numbers
+// are within their limits, and whether its atoms rise.
+pub struct Shape {
+    pub kind: Kind,
+    pub size: usize,
+    pub parts: usize,
+    pub within: bool,
+    pub rising: bool,
+}
+
+// A line judged: the state after it and the offset of the next line, or a fault.
+pub enum Move {
+    On(Reached, usize),
+    Stop(Fault),
+}
+
+// What a text comes to: the state after its last line, or a fault with its position.
+pub enum Judged {
+    Passed(Reached),
+    Failed(Fault, usize),
+}
+
+// Before the first line.
+pub fn start() -> Reached
+    ensures { λ r. ⌜ r ≡ start ⌝ }
+{
+    Reached {
+        phase: NOTHING_YET,
+        size: 0,
+        rules: 0,
+        literals: 0,
+        clauses: 0,
+        loads: 0,
+        terms: 0,
+        values: 0,
+        levels: 0,
+    }
+}
+
+// The state after a form of some shape.
+fn after(reached: Reached, kind: Kind, size: usize, parts: usize) -> Reached
+    requires { ⌜ (countsWithin reached ≡ true) × (parts ≤ 65535) ⌝ }
+    ensures { λ r. ⌜ r ≡ added reached kind size parts ⌝ }
+{
+    let mut then = reached;
+    match kind {
+        Kind::Atoms => {
+            then.phase = IN_RULES;
+            then.size = size;
+        }
+        Kind::Rule => {
+            then.phase = IN_RULES;
+            then.rules = reached.rules + RULE_WIDTH;
+            then.literals = reached.literals + parts;
+        }
+        Kind::Clause => {
+            then.phase = IN_CLAUSES;
+            then.clauses = reached.clauses + CLAUSE_WIDTH;
+            then.literals = reached.literals + parts;
+        }
+        Kind::Load => {
+            then.phase = IN_LOADS;
+            then.loads = reached.loads + LOAD_WIDTH;
+            then.terms = reached.terms + parts;
+        }
+        Kind::Open => {
+            then.phase = OPEN_STOOD;
+            then.values = reached.size;
+        }
+        Kind::Claim => {
+            then.phase = CLAIM_STOOD;
+            then.values = reached.size;
+            then.levels = reached.size;
+        }
+        Kind::Unknown => {}
+    }
+    then
+}
+
+// Whether rows, literals and terms are within the limits of a book.
+fn counts_within(reached: Reached) -> bool
+    ensures { λ r. ⌜ r ≡ countsWithin reached ⌝ }
+{
+    (reached.rules <= MAX_RULE_ENTRIES)
+        & (reached.literals <= MAX_LITERALS)
+        & (reached.clauses <= MAX_CLAUSE_ENTRIES)
+        & (reached.loads <= MAX_LOAD_ENTRIES)
+        & (reached.terms <= MAX_TERMS)
+}
+
+// Whether each lent table has as many entries as are counted for it.
+fn fits(space: Space, reached: Reached) -> bool
+    ensures { λ r. ⌜ r ≡ fits space reached ⌝ }
+{
+    (reached.rules <= space.rules)
+        & (reached.literals <= space.literals)
+        & (reached.clauses <= space.clauses)
+        & (reached.loads <= space.loads)
+        & (reached.terms <= space.load_literals)
+        & (reached.terms <= space.minutes)
+        & (reached.values <= space.values)
+        & (reached.levels <= space.levels)
+}
+
+// Whether a phase is among those in which a kind of form may follow.
+fn between(first: usize, last: usize, phase: usize) -> bool
+    ensures { λ r. ⌜ r ≡ between first last phase ⌝ }
+{
+    (first <= phase) & (phase <= last)
+}
+
+// Whether a form of some kind may follow in a phase.
+fn may_follow(kind: Kind, phase: usize) -> bool
+    ensures { λ r. ⌜ r ≡ mayFollow kind phase ⌝ }
+{
+    match kind {
+        Kind::Atoms => phase == NOTHING_YET,
+        Kind::Rule => between(IN_RULES, IN_RULES, phase),
+        Kind::Clause => between(IN_RULES, IN_CLAUSES, phase),
+        Kind::Load => between(IN_RULES, IN_LOADS, phase),
+        Kind::Open => between(IN_RULES, IN_LOADS, phase),
+        Kind::Claim => between(IN_RULES, IN_LOADS, phase),
+        Kind::Unknown => false,
+    }
+}
+
+// Whether a form's parts are in order: open atoms rise, and there is a claim pair for each atom.
+fn parts_in_order(reached: Reached, kind: Kind, parts: usize, rising: bool) -> bool
+    ensures { λ r. ⌜ r ≡ orderOf reached kind parts rising ⌝ }
+{
+    match kind {
+        Kind::Open => rising,
+        Kind::Claim => parts == reached.size,
+        _ => true,
+    }
+}
+
+// A form judged in the state reached so far: its limits first, then its order, then the space of the lent tables.
+pub fn judge_shape(space: Space, reached: Reached, shape: Shape, next: usize) -> Move
+    requires { ⌜ (countsWithin reached ≡ true) × (shape .parts ≤ 65535) ⌝ }
+    ensures { λ r. ⌜ r ≡ moved next (judgeShape space reached shape) ⌝ }
+{
+    let kind = shape.kind;
+    let then = after(reached, kind, shape.size, shape.parts);
+    if !(shape.within & counts_within(then)) {
+        return Move::Stop(Fault::OutsideLimits);
+    }
+    if !(may_follow(kind, reached.phase)
+        & parts_in_order(reached, kind, shape.parts, shape.rising)) {
+        return Move::Stop(Fault::OutOfOrder);
+    }
+    if !fits(space, then) {
+        return Move::Stop(Fault::NoSpace);
+    }
+    Move::On(then, next)
+}

@@ -1,0 +1,6 @@
+-- Laws of entries stored, of the parts of a list, and of lists of literals, of terms and pairs, and of open atoms.
+pub mod StoreLaws
+pub mod PartLaws
+pub mod ListLaws
+pub mod TermLaws
+pub mod AtomLaws

@@ -1,0 +1,155 @@
+// The parts that forms list, each after one space, up to the closing bracket. Parts are stored as they are read.
+use crate::stores::minutes_within;
+use crate::stores::store;
+use crate::stores::store_minutes;
+use crate::stores::store_value;
+use format::literals::Literal;
+use format::literals::read_literal;
+use format::numbers::Number;
+use format::numbers::read_number;
+use format::pairs::Pair;
+use format::pairs::read_pair;
+use format::terms::Term;
+use format::terms::read_term;
+use format::words::byte_at;
+ghost use mathlib.Core.Path.{_≡_};
+ghost use mathlib.Core.Bool.{true};
+ghost use Prim.Native.Nat.{_≤_};
+ghost use mathlib.Core.List.{map};
+ghost use lib.Dec.{ltb};
+ghost use lib.ListN.{drop};
+ghost use lib.Seq.{sets};
+ghost use Rattle.format.specs.Forms.{TermText, PairText};
+ghost use Rattle.format.specs.Parse.{readNumber, readLiteral, readTerm, readPair, parts};
+ghost use Rattle.format.specs.Items.{literalCode};
+ghost use Rattle.judging.specs.Judging.{literalWithin, termWithin, pairWithin};
+ghost use Rattle.judging.specs.Shapes.{cappedRise};
+ghost use Rattle.lists.specs.Lists.{Inside, Lists, marked};
+
+pub mod stores;
+
+// Codes of literals lie below twice the most atoms; a value has 8 bits and a level 16.
+const LITERAL_CODES: usize = 2048;
+
+const MAX_VALUE: usize = 255;
+
+const MAX_LEVEL: usize = 65535;
+
+// How many parts were listed, whether all are within their limits, whether they rise, and the offset after them; or no list.
+pub enum Parts {
+    Listed(usize, bool, bool, usize),
+    NoList,
+}
+
+// The literals of a rule or a clause, stored from a place on.
+pub fn read_literals(text: &[u8], at: usize, literals: &mut [u16], from: usize) -> Parts
+    requires { ⌜ Inside (now text) at ⌝ }
+    requires { ⌜ from ≤ 16384 ⌝ }
+    ensures { λ r. ⌜ Lists (now (text .entry)) literalWithin (λ ls. true) (parts readLiteral (drop at (now (text .entry)))) r
+        (λ ls. now (literals .exit) ≡ sets (now (literals .entry)) from (map literalCode ls)) ⌝ }
+{
+    let mut next = at;
+    let mut count = 0;
+    let mut within = true;
+    while byte_at(text, next, b' ') {
+        let Literal::Coded(literal, after) = read_literal(text, next + 1) else {
+            return Parts::NoList;
+        };
+        store(literals, from + count, literal);
+        within = within & (literal < LITERAL_CODES);
+        count += 1;
+        next = after;
+    }
+    if !byte_at(text, next, b')') {
+        return Parts::NoList;
+    }
+    Parts::Listed(count, within, true, next + 1)
+}
+
+// The terms of a load line, their literals and minutes stored from a place on.
+pub fn read_terms(
+    text: &[u8],
+    at: usize,
+    load_literals: &mut [u16],
+    minutes: &mut [i16],
+    from: usize,
+) -> Parts
+    requires { ⌜ Inside (now text) at ⌝ }
+    requires { ⌜ from ≤ 4096 ⌝ }
+    ensures { λ r. ⌜ Lists (now (text .entry)) termWithin (λ ts. true) (parts readTerm (drop at (now (text .entry)))) r
+        (λ ts. (now («load_literals» .exit) ≡ sets (now («load_literals» .entry)) from (map (λ (t : TermText). literalCode (t .literal)) ts))
+        × (now (minutes .exit) ≡ sets (now (minutes .entry)) from (map (λ (t : TermText). t .minutes) ts))) ⌝ }
+{
+    let mut next = at;
+    let mut count = 0;
+    let mut within = true;
+    while byte_at(text, next, b' ') {
+        let Term::Weighed(worked, literal, after) = read_term(text, next + 1) else {
+            return Parts::NoList;
+        };
+        store(load_literals, from + count, literal);
+        store_minutes(minutes, from + count, worked);
+        within = within & (minutes_within(worked) & (literal < LITERAL_CODES));
+        count += 1;
+        next = after;
+    }
+    if !byte_at(text, next, b')') {
+        return Parts::NoList;
+    }
+    Parts::Listed(count, within, true, next + 1)
+}
+
+// The atoms of an open form, each marked in the values.
+pub fn read_atoms(text: &[u8], at: usize, bound: usize, values: &mut [u8]) -> Parts
+    requires { ⌜ Inside (now text) at ⌝ }
+    requires { ⌜ bound ≤ 1024 ⌝ }
+    ensures { λ r. ⌜ Lists (now (text .entry)) (λ atom. ltb atom bound) cappedRise (parts readNumber (drop at (now (text .entry)))) r
+        (λ atoms. now (values .exit) ≡ marked atoms (now (values .entry))) ⌝ }
+{
+    let mut next = at;
+    let mut count = 0;
+    let mut within = true;
+    let mut rising = true;
+    let mut floor = 0;
+    while byte_at(text, next, b' ') {
+        let Number::Read(atom, after) = read_number(text, next + 1) else {
+            return Parts::NoList;
+        };
+        store_value(values, atom, 1);
+        within = within & (atom < bound);
+        rising = rising & (floor <= atom);
+        floor = atom + 1;
+        count += 1;
+        next = after;
+    }
+    if !byte_at(text, next, b')') {
+        return Parts::NoList;
+    }
+    Parts::Listed(count, within, rising, next + 1)
+}
+
+// The pairs of a claim, their values and levels stored atom by atom.
+pub fn read_pairs(text: &[u8], at: usize, values: &mut [u8], levels: &mut [u16]) -> Parts
+    requires { ⌜ Inside (now text) at ⌝ }
+    ensures { λ r. ⌜ Lists (now (text .entry)) pairWithin (λ ps. true) (parts readPair (drop at (now (text .entry)))) r
+        (λ ps. (now (values .exit) ≡ sets (now (values .entry)) 0 (map (λ (p : PairText). p .value) ps))
+        × (now (levels .exit) ≡ sets (now (levels .entry)) 0 (map (λ (p : PairText). p .level) ps))) ⌝ }
+{
+    let mut next = at;
+    let mut count = 0;
+    let mut within = true;
+    while byte_at(text, next, b' ') {
+        let Pair::Paired(value, level, after) = read_pair(text, next + 1) else {
+            return Parts::NoList;
+        };
+        store_value(values, count, value);
+        store(levels, count, level);
+        within = within & ((value <= MAX_VALUE) & (level <= MAX_LEVEL));
+        count += 1;
+        next = after;
+    }
+    if !byte_at(text, next, b')') {
+        return Parts::NoList;
+    }
+    Parts::Listed(count, within, true, next + 1)
+}
