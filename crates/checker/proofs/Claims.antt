@@ -5,24 +5,24 @@ use mathlib.Core.Path.{_≡_, refl, sym, ap, subst, _∙_}
 use mathlib.Core.Bool.{true, not}
 use mathlib.Core.List.{List, [], _∷_, List·Memᴰ, List·Memᴰ·head, List·Memᴰ·tail}
 use lib.ListN.{length}
-use lib.Dec.{eqb}
-use borrow.Author.Tests.{not-false, lt-ltb, eq-eqb}
+use borrow.Author.Tests.{not-false}
 use Rattle.wellfounded.specs.Lists.{any}
 use Rattle.wellfounded.specs.Literals.{isFalse, valueAt}
 use Rattle.wellfounded.specs.Definitions.{Rule, isDefined}
 use Rattle.wellfounded.specs.Levels.{Blocks, levelInRange, blocks}
 use Rattle.wellfounded.proofs.Tests.{both, first, second, not-lacking, none-lacking}
-use Rattle.wellfounded.proofs.Lists.{any-use, any-make, anyBelow-make, member-tabulate, tabulate-member}
+use Rattle.wellfounded.proofs.Lists.{any-use, any-make, member-tabulate, tabulate-member}
 use Rattle.wellfounded.proofs.Definitions.{defined-below, open-below}
 use Rattle.wellfounded.proofs.Levels.{levelInRange-open, levelInRange-defined, levelInRange-make, isSupported-use, isSupported-make, blocks-use, blocks-make}
 use Rattle.tables.specs.Faults.{Test, Absent}
-use Rattle.tables.specs.Rows.{ruleCount, ruleHead, ruleBody, ruleAt, rulesOf, headsRule, definitionOf}
+use Rattle.tables.specs.Rows.{ruleCount, ruleHead, ruleBody, ruleAt, rulesOf, definitionOf}
 use Rattle.tables.specs.Sound.{Tables, bookOf, Sound}
 use Rattle.tables.proofs.Faults.{absent-more}
 use Rattle.tables.proofs.SoundTables.{sound-rules, slices-fit}
 use Rattle.tables.proofs.Satisfied.{absent-satisfies, satisfies-absent}
 use Rattle.tables.specs.Marks.{notHeld}
 use Rattle.checker.specs.Check.{badLevel, unsupported, unblocked, valueTest, levelTest, supportTest, blockingTest, levelTests, claimTests, RightClaim}
+use Rattle.checker.proofs.LevelScans.{head-defined}
 
 module _ (t : Tables) (values levels : List ℕ) where
   abbrev pub lengths : List ℕ
@@ -36,10 +36,8 @@ module _ (t : Tables) (values levels : List ℕ) where
   rule-row r m = tabulate-member _ _ m
 
   row-defined : Sound t lengths → (row : ℕ) → row < ruleCount (t .rules) → isDefined (bookOf t) (ruleHead (t .rules) row) ≡ true
-  unfolding bookOf definitionOf isDefined headsRule
-  row-defined sound row l =
-      both _ _ (lt-ltb _ _ (sound-rules t (sound .tables) .heads row l))
-      (anyBelow-make (ruleCount (t .rules)) (λ k. eqb (ruleHead (t .rules) k) (ruleHead (t .rules) row)) row l (eq-eqb (ruleHead (t .rules) row) _ refl))
+  unfolding bookOf
+  row-defined sound row l = head-defined (sound-rules t (sound .tables)) row l
 
   pub claim-right : Sound t lengths → ((test : Test) → List·Memᴰ test (claimTests t values levels) → Absent test) → RightClaim t values levels
   unfolding claimTests levelTests valueTest levelTest supportTest blockingTest notHeld badLevel unsupported unblocked bookOf definitionOf ruleAt

@@ -1,51 +1,23 @@
--- Laws of the rules that support true atoms: a literal's test as the code makes it, and the scan of all rows.
+-- Laws of the rules that support true atoms: the scan of all rows.
 -- Assumes nothing.
 use Prim.Native.Nat.{ℕ, _<_}
 use mathlib.Core.Path.{_≡_, refl, sym, ap, subst, _∙_}
-use mathlib.Core.Bool.{Bool, true, false, not, _&&_}
+use mathlib.Core.Bool.{Bool, true, not, _&&_}
 use mathlib.Core.List.{List}
-use native.Mathlib.Omega.{arith}
-use lib.Dec.{ltb, eqb}
+use lib.Dec.{eqb}
 use lib.ListN.{length, getD}
-use borrow.Author.Tests.{eqb-true, eq-eqb, ne-eqb}
+use borrow.Author.Tests.{eqb-true, eq-eqb}
 use Rattle.wellfounded.specs.Lists.{all}
-use Rattle.wellfounded.specs.Literals.{isTrue, valueAt, atomOf, literalTrue}
-use Rattle.wellfounded.specs.Definitions.{Rule, Definition, isDefined}
-use Rattle.wellfounded.specs.Levels.{levelAt, supports, isSupported}
+use Rattle.wellfounded.specs.Literals.{isTrue, valueAt}
+use Rattle.wellfounded.specs.Definitions.{Rule, Definition}
+use Rattle.wellfounded.specs.Levels.{supports, isSupported}
 use Rattle.wellfounded.proofs.Tests.{both, first, second, same-test}
 use Rattle.wellfounded.proofs.Lists.{anyBelow-use, anyBelow-make, member-tabulate, tabulate-member}
 use Rattle.wellfounded.proofs.Definitions.{someRule-use, someRule-make}
 use Rattle.tables.specs.Rows.{ruleCount, ruleHead, ruleBody, ruleAt, rulesOf, definitionOf}
 use Rattle.tables.specs.Marks.{isMarked}
 use Rattle.tables.proofs.MarkLaws.{true-at}
-use Rattle.checker.specs.Marks.{Readable, Reached, supportedBy}
-
--- A literal that is not true supports nothing,
-pub supports-untrue : (d : Definition) (values levels : List ℕ) (atom literal : ℕ) → literalTrue values literal ≡ false → false ≡ supports d values levels atom literal
-unfolding supports
-supports-untrue d values levels atom literal h = rw h
-
-module _ {d : Definition} {defined values levels : List ℕ} (readable : Readable d defined values levels) where
-  reads-defined : (atom : ℕ) → atom < d .size → getD defined atom 0 ≡ 1 → isDefined d atom ≡ true
-  unfolding isMarked
-  reads-defined atom l e = sym (readable .tells atom l) ∙ eq-eqb _ _ e
-
-  reads-open : (atom : ℕ) → atom < d .size → (getD defined atom 0 ≡ 1 → ⊥) → isDefined d atom ≡ false
-  unfolding isMarked
-  reads-open atom l ne = sym (readable .tells atom l) ∙ ne-eqb _ _ ne
-
-  module _ (atom literal place level : ℕ) (reached : Reached (atomOf literal) defined values levels) (at : place ≡ atomOf literal) (lv : levelAt levels atom ≡ level) where
-    -- a true one with a defined atom goes by the levels,
-    pub supports-lower : literalTrue values literal ≡ true → getD defined place 0 ≡ 1 → ltb (getD levels place 0) level ≡ supports d values levels atom literal
-    unfolding supports levelAt
-    supports-lower h e =
-        rw (h, reads-defined (atomOf literal) (omega arith) (rw at at e), ← lv, at)
-
-    -- and any other supports by being true.
-    pub supports-open : literalTrue values literal ≡ true → (getD defined place 0 ≡ 1 → ⊥) → true ≡ supports d values levels atom literal
-    unfolding supports
-    supports-open h ne =
-        rw (h, reads-open (atomOf literal) (omega arith) (rw at at ne))
+use Rattle.checker.specs.Marks.{supportedBy}
 
 -- A rule row whose head is true and which supports it.
 abbrev pub supportsRow : Definition → List ℕ → List ℕ → List ℕ → List ℕ → ℕ → Bool

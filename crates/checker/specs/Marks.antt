@@ -1,14 +1,14 @@
 -- What the scans of a claim read, and the support that they mark.
 use Prim.Native.Nat.{ℕ, _≤_, _<_}
 use mathlib.Core.Path.{_≡_}
-use mathlib.Core.Bool.{Bool, _&&_}
+use mathlib.Core.Bool.{Bool, true, _&&_}
 use mathlib.Core.List.{List}
 use lib.Dec.{eqb}
 use lib.ListN.{length}
 use Rattle.wellfounded.specs.Lists.{all, anyBelow}
 use Rattle.wellfounded.specs.Literals.{isTrue, valueAt}
-use Rattle.wellfounded.specs.Definitions.{Definition, isDefined}
-use Rattle.wellfounded.specs.Levels.{supports}
+use Rattle.wellfounded.specs.Definitions.{Definition, isDefined, isOpen}
+use Rattle.wellfounded.specs.Levels.{levelAt, supports}
 use Rattle.tables.specs.Rows.{ruleHead, ruleBody}
 use Rattle.tables.specs.Limits.{maxAtoms}
 use Rattle.tables.specs.Satisfied.{RulesScannable}
@@ -21,9 +21,16 @@ pub record Readable (d : Definition) (defined values levels : List ℕ) : Type 0
   pub valued : length values ≡ d .size
   pub levelled : length levels ≡ d .size
 
--- A slot for the atom in each of the three.
-pub record Reached (atom : ℕ) (defined values levels : List ℕ) : Type 0 where
-  pub mark : atom < length defined
+-- What the scans of the rules read, once no level has a fault: a value and a level for each atom, and levels that tell the open
+-- atoms from the defined ones.
+pub record Ranged (d : Definition) (values levels : List ℕ) : Type 0 where
+  pub valued : length values ≡ d .size
+  pub levelled : length levels ≡ d .size
+  pub openLevel : (atom : ℕ) → isOpen d atom ≡ true → levelAt levels atom ≡ 0
+  pub definedLevel : (atom : ℕ) → isDefined d atom ≡ true → 1 ≤ levelAt levels atom
+
+-- The atom has a value and a level.
+pub record Reached (atom : ℕ) (values levels : List ℕ) : Type 0 where
   pub value : atom < length values
   pub level : atom < length levels
 

@@ -1,6 +1,6 @@
 // Rules of false atoms and the literals that block them.
 ghost use mathlib.Core.Path.{_≡_};
-ghost use Prim.Native.Nat.{ℕ, _<_};
+ghost use Prim.Native.Nat.{ℕ, _≤_, _<_};
 ghost use lib.ListN.{length, getD};
 ghost use Rattle.wellfounded.specs.Literals.{atomOf};
 ghost use Rattle.wellfounded.specs.Definitions.{Definition};
@@ -9,54 +9,31 @@ ghost use Rattle.tables.specs.Faults.{lowest};
 ghost use Rattle.tables.specs.Rows.{ruleCount, definitionOf};
 ghost use Rattle.tables.specs.Satisfied.{RulesScannable};
 ghost use Rattle.checker.specs.Check.{unblocked};
-ghost use Rattle.checker.specs.Marks.{Readable, Reached};
+ghost use Rattle.checker.specs.Marks.{Ranged, Reached};
 use tables::Found;
 use tables::rows::RULE_WIDTH;
 use tables::rows::entry;
 use wellfounded::atom_of;
-use wellfounded::is_negated;
-use wellfounded::literal_false;
 
-// Whether the literal at place `i` of a body blocks a rule for a false atom at the level: it is false, and open, or
-// positive and defined at a level no higher, or negated and defined at a strictly lower level.
-fn literal_blocks(
-    body: &[u16],
-    i: usize,
-    level: u16,
-    defined: &[u8],
-    values: &[u8],
-    levels: &[u16],
-) -> bool
-    requires { ⌜ (i < length (now body)) × Reached (atomOf (getD (now body) i 0)) (now defined) (now values) (now levels) ⌝ }
-    ensures { λ r. ⌜ ((d : Definition) (atom : ℕ) → Readable d (now (defined .entry)) (now (values .entry)) (now (levels .entry)) →
+// Whether the literal at place `i` of a body blocks a rule for a false atom at the level: it is false, and its atom is at a
+// level no higher if it is positive, strictly lower if it is negated. An open atom's level is 0, so that it is always lower.
+// The value that makes a literal false is 1 if it is negated, and 0 if not.
+fn literal_blocks(body: &[u16], i: usize, level: u16, values: &[u8], levels: &[u16]) -> bool
+    requires { ⌜ (i < length (now body)) × Reached (atomOf (getD (now body) i 0)) (now values) (now levels) × (1 ≤ level) ⌝ }
+    ensures { λ r. ⌜ ((d : Definition) (atom : ℕ) → Ranged d (now (values .entry)) (now (levels .entry)) →
         levelAt (now (levels .entry)) atom ≡ level →
         r ≡ blocks d (now (values .entry)) (now (levels .entry)) atom (getD (now (body .entry)) i 0)) ⌝ }
 {
     let literal = body[i];
-    if !literal_false(literal, values) {
-        return false;
-    }
     let atom = atom_of(literal);
-    if defined[atom] != 1 {
-        return true;
-    }
-    if is_negated(literal) {
-        levels[atom] < level
-    } else {
-        levels[atom] <= level
-    }
+    let negated = literal % 2;
+    (values[atom] as u16 == negated) & (levels[atom] <= level - negated)
 }
 
 // The lowest rule row of a false atom with no blocking literal.
-pub fn unblocked_row(
-    rules: &[u16],
-    literals: &[u16],
-    defined: &[u8],
-    values: &[u8],
-    levels: &[u16],
-) -> Found
+pub fn unblocked_row(rules: &[u16], literals: &[u16], values: &[u8], levels: &[u16]) -> Found
     requires { ⌜ RulesScannable (now rules) (now literals) (length (now values)) ⌝ }
-    requires { ⌜ Readable (definitionOf (length (now values)) (now rules) (now literals)) (now defined) (now values) (now levels) ⌝ }
+    requires { ⌜ Ranged (definitionOf (length (now values)) (now rules) (now literals)) (now values) (now levels) ⌝ }
     ensures { λ r. ⌜ r ≡ lowest (ruleCount (now (rules .entry)))
         (unblocked (definitionOf (length (now (values .entry))) (now (rules .entry)) (now (literals .entry)))
         (now (rules .entry)) (now (literals .entry)) (now (values .entry)) (now (levels .entry))) ⌝ }
@@ -76,7 +53,7 @@ pub fn unblocked_row(
         let level = levels[head];
         let mut i = 0;
         while i < size {
-            if literal_blocks(&literals[start..], i, level, defined, values, levels) {
+            if literal_blocks(&literals[start..], i, level, values, levels) {
                 continue 'rows;
             }
             i += 1;

@@ -11,7 +11,7 @@ use tables::Found;
 
 // Whether the atom's level is 0 where it is open, and from 1 to `most` where it is defined.
 fn level_in_range(defined: &[u8], most: usize, values: &[u8], levels: &[u16], atom: usize) -> bool
-    requires { ⌜ Reached atom (now defined) (now values) (now levels) ⌝ }
+    requires { ⌜ (atom < length (now defined)) × Reached atom (now values) (now levels) ⌝ }
     ensures { λ r. ⌜ ((d : Definition) → Readable d (now (defined .entry)) (now (values .entry)) (now (levels .entry)) →
         definedCount d ≡ most → r ≡ levelInRange d (now (levels .entry)) atom) ⌝ }
 {

@@ -8,7 +8,7 @@ ghost use Rattle.tables.specs.Rows.{definitionOf};
 ghost use Rattle.tables.specs.Sound.{lent};
 ghost use Rattle.tables.specs.Satisfied.{RulesScannable, ClausesScannable, LoadsScannable};
 ghost use Rattle.checker.specs.Check.{supportTest, blockingTest, levelTests, claimTests, checkOf};
-ghost use Rattle.checker.specs.Marks.{Readable, Levelled};
+ghost use Rattle.checker.specs.Marks.{Readable, Ranged, Levelled};
 
 mod blocking;
 mod levels;
@@ -37,6 +37,7 @@ fn rule_fault(
 ) -> Verdict
     requires { ⌜ RulesScannable (now rules) (now literals) (length (now values)) ⌝ }
     requires { ⌜ Readable (definitionOf (length (now values)) (now rules) (now literals)) (now defined) (now values) (now levels) ⌝ }
+    requires { ⌜ Ranged (definitionOf (length (now values)) (now rules) (now literals)) (now values) (now levels) ⌝ }
     requires { ⌜ length (now values) ≤ 1024 ⌝ }
     ensures { λ r. ⌜ r ≡ firstFault
         (supportTest (definitionOf (length (now (values .entry))) (now (rules .entry)) (now (literals .entry))) (now (values .entry)) (now (levels .entry))
@@ -44,11 +45,11 @@ fn rule_fault(
         (now (rules .entry)) (now (literals .entry)) (now (values .entry)) (now (levels .entry)) ∷ []) ⌝ }
 {
     let mut supported = [0u8; 1024];
-    mark_supported(rules, literals, defined, values, levels, &mut supported);
+    mark_supported(rules, literals, values, levels, &mut supported);
     if let Found::At(atom) = unsupported_atom(defined, values, &supported) {
         return Verdict::Refused(Fault::Unsupported, atom);
     }
-    if let Found::At(row) = unblocked_row(rules, literals, defined, values, levels) {
+    if let Found::At(row) = unblocked_row(rules, literals, values, levels) {
         return Verdict::Refused(Fault::Unblocked, row);
     }
     Verdict::Accepted

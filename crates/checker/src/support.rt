@@ -11,28 +11,22 @@ ghost use Rattle.tables.specs.Faults.{lowest};
 ghost use Rattle.tables.specs.Rows.{ruleCount, ruleHead, ruleBody, definitionOf};
 ghost use Rattle.tables.specs.Satisfied.{RulesScannable};
 ghost use Rattle.tables.specs.Marks.{isMarked, markWhere};
-ghost use Rattle.checker.specs.Marks.{Readable, Reached, supportedBy};
+ghost use Rattle.checker.specs.Marks.{Ranged, Reached, supportedBy};
 use tables::Found;
 use tables::rows::RULE_WIDTH;
 use tables::rows::entry;
 use wellfounded::atom_of;
 use wellfounded::literal_true;
 
-// Whether the literal supports a true atom at the level: it is true, and its atom, where defined, is at a strictly lower level.
-fn literal_supports(literal: u16, level: u16, defined: &[u8], values: &[u8], levels: &[u16]) -> bool
-    requires { ⌜ Reached (atomOf literal) (now defined) (now values) (now levels) ⌝ }
-    ensures { λ r. ⌜ ((d : Definition) (atom : ℕ) → Readable d (now (defined .entry)) (now (values .entry)) (now (levels .entry)) →
+// Whether the literal supports a true atom at the level: it is true, and its atom is at a strictly lower level. An open atom's
+// level is 0, so that it is always lower.
+fn literal_supports(literal: u16, level: u16, values: &[u8], levels: &[u16]) -> bool
+    requires { ⌜ Reached (atomOf literal) (now values) (now levels) × (1 ≤ level) ⌝ }
+    ensures { λ r. ⌜ ((d : Definition) (atom : ℕ) → Ranged d (now (values .entry)) (now (levels .entry)) →
         levelAt (now (levels .entry)) atom ≡ level → r ≡ supports d (now (values .entry)) (now (levels .entry)) atom literal) ⌝ }
 {
-    if !literal_true(literal, values) {
-        return false;
-    }
     let atom = atom_of(literal);
-    if defined[atom] == 1 {
-        levels[atom] < level
-    } else {
-        true
-    }
+    literal_true(literal, values) & (levels[atom] < level)
 }
 
 // Whether the first `size` literals all support an atom at the level.
@@ -40,18 +34,17 @@ fn literals_support(
     literals: &[u16],
     size: usize,
     level: u16,
-    defined: &[u8],
     values: &[u8],
     levels: &[u16],
 ) -> bool
-    requires { ⌜ (Scannable (now literals) 0 size (length (now values))) × (length (now values) ≤ length (now defined)) × (length (now levels) ≡ length (now values)) ⌝ }
-    ensures { λ r. ⌜ ((d : Definition) (atom : ℕ) → Readable d (now (defined .entry)) (now (values .entry)) (now (levels .entry)) →
+    requires { ⌜ (Scannable (now literals) 0 size (length (now values))) × (length (now levels) ≡ length (now values)) × (1 ≤ level) ⌝ }
+    ensures { λ r. ⌜ ((d : Definition) (atom : ℕ) → Ranged d (now (values .entry)) (now (levels .entry)) →
         levelAt (now (levels .entry)) atom ≡ level →
         r ≡ all (supports d (now (values .entry)) (now (levels .entry)) atom) (bodyAt (now (literals .entry)) 0 size)) ⌝ }
 {
     let mut i = 0;
     while i < size {
-        if !literal_supports(literals[i], level, defined, values, levels) {
+        if !literal_supports(literals[i], level, values, levels) {
             return false;
         }
         i += 1;
@@ -65,30 +58,22 @@ fn body_supports(
     start: usize,
     size: usize,
     level: u16,
-    defined: &[u8],
     values: &[u8],
     levels: &[u16],
 ) -> bool
-    requires { ⌜ (Scannable (now literals) start size (length (now values))) × (length (now values) ≤ length (now defined)) × (length (now levels) ≡ length (now values)) ⌝ }
-    ensures { λ r. ⌜ ((d : Definition) (atom : ℕ) → Readable d (now (defined .entry)) (now (values .entry)) (now (levels .entry)) →
+    requires { ⌜ (Scannable (now literals) start size (length (now values))) × (length (now levels) ≡ length (now values)) × (1 ≤ level) ⌝ }
+    ensures { λ r. ⌜ ((d : Definition) (atom : ℕ) → Ranged d (now (values .entry)) (now (levels .entry)) →
         levelAt (now (levels .entry)) atom ≡ level →
         r ≡ all (supports d (now (values .entry)) (now (levels .entry)) atom) (bodyAt (now (literals .entry)) start size)) ⌝ }
 {
-    literals_support(&literals[start..], size, level, defined, values, levels)
+    literals_support(&literals[start..], size, level, values, levels)
 }
 
 // Whether the rule row's head is true and the row supports it.
-fn row_supports(
-    rules: &[u16],
-    row: usize,
-    literals: &[u16],
-    defined: &[u8],
-    values: &[u8],
-    levels: &[u16],
-) -> bool
+fn row_supports(rules: &[u16], row: usize, literals: &[u16], values: &[u8], levels: &[u16]) -> bool
     requires { ⌜ row < ruleCount (now rules) ⌝ }
     requires { ⌜ RulesScannable (now rules) (now literals) (length (now values)) ⌝ }
-    requires { ⌜ Readable (definitionOf (length (now values)) (now rules) (now literals)) (now defined) (now values) (now levels) ⌝ }
+    requires { ⌜ Ranged (definitionOf (length (now values)) (now rules) (now literals)) (now values) (now levels) ⌝ }
     ensures { λ r. ⌜ r ≡ (isTrue (valueAt (now (values .entry)) (ruleHead (now (rules .entry)) row))
         && all (supports (definitionOf (length (now (values .entry))) (now (rules .entry)) (now (literals .entry))) (now (values .entry))
         (now (levels .entry)) (ruleHead (now (rules .entry)) row)) (ruleBody (now (rules .entry)) (now (literals .entry)) row)) ⌝ }
@@ -99,20 +84,19 @@ fn row_supports(
     }
     let start = entry(rules, row * RULE_WIDTH + 1);
     let size = entry(rules, row * RULE_WIDTH + 2);
-    body_supports(literals, start, size, levels[head], defined, values, levels)
+    body_supports(literals, start, size, levels[head], values, levels)
 }
 
-// Marks every true atom that a rule supports.
+// Marks every true atom that a rule supports. A row whose head is marked is passed over.
 pub fn mark_supported(
     rules: &[u16],
     literals: &[u16],
-    defined: &[u8],
     values: &[u8],
     levels: &[u16],
     supported: &mut [u8],
 )
     requires { ⌜ RulesScannable (now rules) (now literals) (length (now values)) ⌝ }
-    requires { ⌜ Readable (definitionOf (length (now values)) (now rules) (now literals)) (now defined) (now values) (now levels) ⌝ }
+    requires { ⌜ Ranged (definitionOf (length (now values)) (now rules) (now literals)) (now values) (now levels) ⌝ }
     requires { ⌜ length (now values) ≤ length (now supported) ⌝ }
     ensures { λ r. ⌜ now (supported .exit) ≡ markWhere (supportedBy (definitionOf (length (now (values .entry))) (now (rules .entry)) (now (literals .entry)))
         (now (rules .entry)) (now (literals .entry)) (now (values .entry)) (now (levels .entry)) (ruleCount (now (rules .entry))))
@@ -121,8 +105,9 @@ pub fn mark_supported(
     let rows = rules.len() / RULE_WIDTH;
     let mut row = 0;
     while row < rows {
-        if row_supports(rules, row, literals, defined, values, levels) {
-            supported[entry(rules, row * RULE_WIDTH)] = 1;
+        let head = entry(rules, row * RULE_WIDTH);
+        if supported[head] != 1 && row_supports(rules, row, literals, values, levels) {
+            supported[head] = 1;
         }
         row += 1;
     }

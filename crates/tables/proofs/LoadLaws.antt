@@ -5,13 +5,13 @@ use mathlib.Core.Path.{_≡_, refl, sym, ap, fun-ext}
 use mathlib.Core.Bool.{Bool, true, false, cond, _&&_, false≢true}
 use mathlib.Core.List.{List, [], _∷_}
 use native.Mathlib.Omega.{arith}
-use lib.IntN.{ℤ, pos, negsuc, negℤ, natAbs, subℕ, _+ℤ_, _-ℤ_, +ℤ-assoc, +ℤ-idl, +ℤ-idr}
+use lib.IntN.{ℤ, pos, negsuc, one, negℤ, natAbs, subℕ, _+ℤ_, _-ℤ_, _*ℤ_, +ℤ-assoc, +ℤ-idl, +ℤ-idr, *ℤ-one, *ℤ-zero}
 use lib.Dec.{T, ltb}
 use lib.Signed.{ltZ, leZ, nonNeg, _≤ℤ_, leZ-yes}
 use lib.ListN.{length, getD, take, drop, length-drop}
 use lib.Seq.{take-all, getD-drop}
 use mir.Syntax.{Width, w16, w32}
-use mir.Val.{SFits, toZ, ofZ}
+use mir.Val.{SFits, toZ, ofZ, boolByte}
 use mir.Facts.{toZ-ofZ}
 use borrow.Author.Tests.{ltb-true}
 use Rattle.wellfounded.specs.Lists.{tabulate}
@@ -98,13 +98,21 @@ pub counted-back : {count answer : ℤ} → Counted count answer → Counted cou
 counted-back {count} {answer} c = rw (toZ-ofZ (magnitude-fits answer (omega (arith, c .small)))) c
 
 module _ (values literals : List ℕ) (minutes : List ℤ) (place : ℕ) where
-  pub term-true : literalTrue values (getD literals place 0) ≡ true → termCount values (termAt literals minutes place) ≡ tenths (getD minutes place (pos 0))
+  term-true : literalTrue values (getD literals place 0) ≡ true → termCount values (termAt literals minutes place) ≡ tenths (getD minutes place (pos 0))
   unfolding termCount termAt
   term-true h = rw h
 
-  pub term-false : literalTrue values (getD literals place 0) ≡ false → termCount values (termAt literals minutes place) ≡ pos 0
+  term-false : literalTrue values (getD literals place 0) ≡ false → termCount values (termAt literals minutes place) ≡ pos 0
   unfolding termCount termAt
   term-false h = rw h
+
+  -- The code multiplies by the literal's truth, 0 or 1.
+  pub term-times :
+      {count : ℤ} (holds : Bool) → holds ≡ literalTrue values (getD literals place 0) → Counted (tenths (getD minutes place (pos 0))) count →
+      Counted (termCount values (termAt literals minutes place)) (count *ℤ toZ w32 (boolByte holds))
+  unfolding one
+  term-times {count} true h c = rw (term-true (sym h), *ℤ-one count) c
+  term-times {count} false h c = rw (term-false (sym h), *ℤ-zero count) (record { is = refl; small = omega arith })
 
 -- ── The entries of a row ──
 

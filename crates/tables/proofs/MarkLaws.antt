@@ -92,6 +92,19 @@ mark-one earlier later marks head now others =
         getD-set-other (markWhere earlier marks) head atom 1 0 (eqb-false _ _ f) ∙ rw (mark-at earlier marks atom l, mark-at later marks atom l, others atom (eqb-false _ _ f)))
         (decided (eqb atom head))
 
+-- A mark that is put again changes nothing.
+set-again : (marks : List ℕ) (head : ℕ) → getD marks head 0 ≡ 1 → set marks head 1 ≡ marks
+set-again marks head marked =
+    ext-getD 0 _ _ (length-set marks head 1) (λ atom l. step atom (rw length-set at l))
+  where
+    step : (atom : ℕ) → atom < length marks → getD (set marks head 1) atom 0 ≡ getD marks atom 0
+    step atom l =
+        ⊎-elim
+        (λ (t : eqb atom head ≡ true).
+        let within : head < length marks = omega (arith, eqb-true) in
+        rw (eqb-true atom head t, marked, getD-set-same marks head 1 0 within))
+        (λ (f : eqb atom head ≡ false). getD-set-other marks head atom 1 0 (eqb-false _ _ f)) (decided (eqb atom head))
+
 -- The loop has passed n rows: an atom is marked if one of them passes the test with it, or if it was marked before.
 pub record Marked (p : ℕ → ℕ → Bool) (before : List ℕ) (n : ℕ) (marks : List ℕ) : Type 0 where
   pub is : marks ≡ markWhere (λ atom. anyBelow n (λ row. p row atom)) before
@@ -134,6 +147,14 @@ module _ (heads : ℕ → ℕ) (passes : ℕ → Bool) (before : List ℕ) (n : 
       passes n ≡ false → Marked (λ row atom. eqb (heads row) atom && passes row) before n marks →
       Marked (λ row atom. eqb (heads row) atom && passes row) before (n + 1) marks
   row-passes h m = marked-pass _ before n marks (λ atom. and-right (eqb (heads n) atom) _ h) m
+
+  -- If its head is marked, whether it passes does not matter.
+  pub row-again :
+      (head : ℕ) → head ≡ heads n → getD marks head 0 ≡ 1 → Marked (λ row atom. eqb (heads row) atom && passes row) before n marks →
+      Marked (λ row atom. eqb (heads row) atom && passes row) before (n + 1) marks
+  row-again head e marked m =
+      ⊎-elim (λ (t : passes n ≡ true). rw (set-again marks head marked) at (row-puts head e t m)) (λ (f : passes n ≡ false). row-passes f m)
+      (decided (passes n))
 
 -- A loop that counts the marked atoms has come to n.
 module _ (marks : List ℕ) (n marked : ℕ) (so : marked ≡ count n (isMarked marks)) where

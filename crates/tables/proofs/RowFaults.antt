@@ -1,11 +1,15 @@
 -- Tests of rows and entries as the code makes them.
 -- Assumes nothing.
-use Prim.Native.Nat.{ℕ, suc, _*_, _/_, _^_, _≤_, _<_}
+use Prim.Native.Nat.{ℕ, suc, _+_, _*_, _/_, _^_, _≤_, _<_}
 use mathlib.Core.Path.{_≡_, refl, sym, _∙_}
 use mathlib.Core.Bool.{Bool, true, false, not, _&&_, _||_, or-false, and-false, and-true, false≢true}
+use mathlib.Core.Logic.{⊎-elim}
+use mathlib.Core.List.{List}
+use native.Mathlib.Nat.{eq-or-lt-of-le}
 use native.Mathlib.Omega.{arith}
 use lib.Dec.{T, leb, ltb, eqb, leb·zero, leb·suc-zero, leb·suc-suc}
 use lib.IntN.{ℤ, pos, negsuc, natAbs}
+use lib.ListN.{length, getD}
 use lib.Signed.{mag, ltZ, leZ, nonNeg}
 use mir.Syntax.{Width, w32, w64}
 use mir.Val.{Fits, hbits, toZ, ofZ}
@@ -13,7 +17,10 @@ use mir.Facts.{toZ-ofZ}
 use borrow.Author.Tests.{not-false, leb-true, leb-false, eqb-true, le-leb, lt-leb}
 use Rattle.wellfounded.specs.Literals.{atomOf}
 use Rattle.tables.specs.Loads.{indexOf}
-use Rattle.tables.specs.Sound.{sizesFit}
+use Rattle.tables.specs.declared.Found.the-variants.{Nothing}
+use Rattle.tables.specs.Faults.{lowest}
+use Rattle.tables.specs.Sound.{sizesFit, badLiteral}
+use Rattle.tables.proofs.Faults.{lowest-nothing}
 
 -- ── Tests as the code makes them ──
 same-test : (a b c d : ℕ) → (a ≤ b → c ≤ d) → (b < a → d < c) → leb a b ≡ leb c d
@@ -27,6 +34,33 @@ same-test a b c d passes fails = by (leb a b) refl
 pub literal-beyond : (atoms literal : ℕ) → leb atoms (atomOf literal) ≡ leb (2 * atoms) literal
 unfolding atomOf
 literal-beyond atoms literal = same-test atoms (literal / 2) (2 * atoms) literal (λ h. omega arith) (λ h. omega arith)
+
+-- The search for the highest literal has come to i: no literal before it is higher than `most`.
+pub record Highest (literals : List ℕ) (i most : ℕ) : Type 0 where
+  pub low : i ≤ length literals
+  pub above : (place : ℕ) → place < i → getD literals place 0 ≤ most
+
+module _ {literals : List ℕ} where
+  pub highest-start : Highest literals 0 0
+  highest-start = record { low = omega arith; above = λ place l. absurd (omega arith) }
+
+  pub highest-turn : {i most more : ℕ} → i < length literals → most ≤ more → getD literals i 0 ≤ more → Highest literals i most → Highest literals (i + 1) more
+  highest-turn {i} {most} {more} l no-lower here h = record { low = omega arith; above = λ place below. step place (omega arith) }
+    where
+      step : (place : ℕ) → place ≤ i → getD literals place 0 ≤ more
+      step place below =
+          ⊎-elim (λ (e : place ≡ i). rw e here) (λ (earlier : place < i). omega (arith, h .above place earlier)) (eq-or-lt-of-le below)
+
+  pub highest-end : {i most : ℕ} → length literals ≤ i → Highest literals i most → (place : ℕ) → place < length literals → getD literals place 0 ≤ most
+  highest-end l h place below = h .above place (omega arith)
+
+-- Where the highest literal is an atom's, each is.
+pub none-beyond :
+    (atoms most : ℕ) (literals : List ℕ) → ((place : ℕ) → place < length literals → getD literals place 0 ≤ most) → atomOf most < atoms →
+    lowest (length literals) (badLiteral atoms literals) ≡ Nothing
+unfolding badLiteral atomOf
+none-beyond atoms most literals above known =
+    lowest-nothing _ (length literals) (λ place l. lt-leb (2 * atoms) (getD literals place 0) (omega (arith, above place l)))
 
 -- A signed number that is read from memory is what lies there.
 pub read-back : (w : Width) (z : ℤ) → mag z < 2 ^ hbits w → toZ w (ofZ w z) ≡ z

@@ -39,16 +39,13 @@ fn tenths_of(minutes: i16) -> i32
     if minutes < 0 { 0 - rounded } else { rounded }
 }
 
-// What the term at a place counts in the values.
+// What the term at a place counts in the values: its tenths times the truth of its literal, which leaves no branch.
 fn term_count(load_literals: &[u16], minutes: &[i16], place: usize, values: &[u8]) -> i32
     requires { ⌜ TermsScannable (now «load_literals») (now minutes) place 1 (length (now values)) ⌝ }
     ensures { λ r. ⌜ Counted (termCount (now (values .entry)) (termAt (now («load_literals» .entry)) (now (minutes .entry)) place)) r ⌝ }
 {
-    if wellfounded::literal_true(load_literals[place], values) {
-        tenths_of(minutes[place])
-    } else {
-        0
-    }
+    let counted = wellfounded::literal_true(load_literals[place], values) as i32;
+    tenths_of(minutes[place]) * counted
 }
 
 // The sum over the first `size` terms.

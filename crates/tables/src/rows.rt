@@ -1,7 +1,7 @@
 // Faults of rows and of single entries: each search answers the lowest position that fails.
 // The tests of a row are joined by `|` and `&`, which leave no branch.
 ghost use mathlib.Core.Path.{_≡_};
-ghost use Prim.Native.Nat.{_<_};
+ghost use Prim.Native.Nat.{ℕ, _≤_, _<_};
 ghost use lib.Dec.{leb};
 ghost use lib.IntN.{pos, natAbs};
 ghost use lib.Signed.{nonNeg};
@@ -92,10 +92,30 @@ fn literal_is_bad(atoms: usize, literals: &[u16], place: usize) -> bool
     atoms <= atom_of(literals[place])
 }
 
-// The lowest literal that is no atom's, in use or not.
+// The highest literal, 0 if there is none.
+fn highest(literals: &[u16]) -> u16
+    ensures { λ r. ⌜ ((place : ℕ) → place < length (now (literals .entry)) → getD (now (literals .entry)) place 0 ≤ r) ⌝ }
+{
+    let mut most = 0;
+    let mut i = 0;
+    while i < literals.len() {
+        let literal = literals[i];
+        if most < literal {
+            most = literal;
+        }
+        i += 1;
+    }
+    most
+}
+
+// The lowest literal that is no atom's, in use or not. The highest tells whether there is one: its loop has no early end, so
+// that it looks at many literals at a time.
 pub fn bad_literal(atoms: usize, literals: &[u16]) -> Found
     ensures { λ r. ⌜ r ≡ lowest (length (now (literals .entry))) (badLiteral atoms (now (literals .entry))) ⌝ }
 {
+    if atom_of(highest(literals)) < atoms {
+        return Found::Nothing;
+    }
     let mut place = 0;
     while place < literals.len() {
         if literal_is_bad(atoms, literals, place) {

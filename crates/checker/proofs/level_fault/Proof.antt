@@ -10,6 +10,7 @@ use Rattle.tables.specs.Faults.{lowest, firstFault}
 use Rattle.tables.specs.Rows.{definitionOf}
 use Rattle.tables.proofs.Faults.{found-refuses, nothing-leaves}
 use Rattle.checker.specs.Check.{badLevel, levelTest, supportTest, blockingTest, levelTests}
+use Rattle.checker.proofs.LevelScans.{levels-ranged}
 use Rattle.checker.proofs.MarkedRules.{heads-readable, heads-count}
 use Rattle.checker.proofs.level_fault.Statement.{statement}
 use Rattle.checker.proofs.level_fault.Tie as tie
@@ -70,7 +71,9 @@ slice-aggregate-rule-fault c = search needs
 rule-fault-requires : tie.Need-rule-fault-requires
 rule-fault-requires c κs =
     let pre = c .before .before .before .before .before .before .before .before .before .before .before .before .before .before .pre in
-    (pre .rows, (heads-readable _ _ _ _ (pre .few) _ (c .before .before .before .before .before .before .before .before .mark-heads .ensures) (pre .long), pre .few))
+    let readable = heads-readable _ _ _ _ (pre .few) _ (c .before .before .before .before .before .before .before .before .mark-heads .ensures) (pre .long) in
+    let ranged = levels-ranged readable (sym (level-is (c .before .before .before)) ∙ c .before .enum-told .given .1) in
+    (pre .rows, (readable, (ranged, pre .few)))
 
 returns-2 : tie.Need-returns-2
 returns-2 c = c .rule-fault .ensures ∙ sym (levels-fit (c .before .before))

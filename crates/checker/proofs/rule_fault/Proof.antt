@@ -19,7 +19,7 @@ unsupported-is :
     ≡ lowest (length (a .values .now)) (unsupported (definitionOf (length (a .values .now)) (a .rules .now) (a .literals .now)) (a .values .now) (a .levels .now))
 unsupported-is c =
     let pre = c .before .before .before .before .before .before .before .before .before .before .pre in
-    c .unsupported-atom .ensures ∙ support-same _ _ _ _ (pre .1 .1) _ _ (pre .1 .0) (c .before .before .before .mark-supported .ensures)
+    c .unsupported-atom .ensures ∙ support-same _ _ _ _ (pre .1 .1 .1) _ _ (pre .1 .0) (c .before .before .before .mark-supported .ensures)
 
 all-supported :
     (c : tie.After-enum-told) →

@@ -15,18 +15,18 @@ use Rattle.checker.proofs.blocking.unblocked_row.Statement.{statement}
 use Rattle.checker.proofs.blocking.unblocked_row.Tie as tie
 
 abbrev Inv-loop : tie.InvT-loop
-Inv-loop rules literals defined values levels rows next found row head start size level i₀ i =
-    RowScan (definitionOf (length values) rules literals) rules literals defined values levels row head start size i
+Inv-loop rules literals values levels rows next found row head start size level i₀ i =
+    RowScan (definitionOf (length values) rules literals) rules literals values levels row head start size i
 
 abbrev μ-loop : tie.MeasureT-loop
-μ-loop rules literals defined values levels rows next found row head start size level i₀ i = size - i
+μ-loop rules literals values levels rows next found row head start size level i₀ i = size - i
 
 abbrev Inv-rows : tie.InvT-rows
-Inv-rows rules literals defined values levels rows next₀ found₀ next found =
+Inv-rows rules literals values levels rows next₀ found₀ next found =
     (next ≤ rows) × (lowest next (unblocked (definitionOf (length values) rules literals) rules literals values levels) ≡ Nothing) × (found ≡ Nothing)
 
 abbrev μ-rows : tie.MeasureT-rows
-μ-rows rules literals defined values levels rows next₀ found₀ next found = rows - next
+μ-rows rules literals values levels rows next₀ found₀ next found = rows - next
 
 rows-holds : tie.Need-rows-holds Inv-loop μ-loop Inv-rows μ-rows
 rows-holds c = (omega arith, lowest-start _, refl)
@@ -42,7 +42,7 @@ entry-requires c κs = omega arith
 
 shared-slice-read-if1 : tie.Need-shared-slice-read-if1 Inv-loop μ-loop Inv-rows μ-rows
 shared-slice-read-if1 c =
-    row-head (c .before .before .before .before .before .before .before .before .before .pre .0) _ (omega arith) (c .before .entry .ensures)
+    row-head (c .before .before .before .before .before .before .before .before .pre .0) _ (omega arith) (c .before .entry .ensures)
 
 rows-less : tie.Need-rows-less Inv-loop μ-loop Inv-rows μ-rows
 rows-less c = omega arith
@@ -51,7 +51,7 @@ rows-again : tie.Need-rows-again Inv-loop μ-loop Inv-rows μ-rows
 rows-again c =
     let found = c .before .before .before .before .rows .inv in
     let head = c .before .before .entry .ensures in
-    let known = row-head (c .before .before .before .before .before .before .before .before .before .before .pre .0) _ (omega arith) head in
+    let known = row-head (c .before .before .before .before .before .before .before .before .before .pre .0) _ (omega arith) head in
     (omega arith, lowest-turn _ _ (found .1) (row-not-false _ _ _ _ _ _ head known (c .if1 .taken)), found .2)
 
 mul-entry-2 : tie.Need-mul-entry-2 Inv-loop μ-loop Inv-rows μ-rows
@@ -77,12 +77,12 @@ mul-level c = omega arith
 
 shared-slice-read-level : tie.Need-shared-slice-read-level Inv-loop μ-loop Inv-rows μ-rows
 shared-slice-read-level c =
-    let pre = c .before .before .before .before .before .before .before .before .before .before .before .before .before .pre in
+    let pre = c .before .before .before .before .before .before .before .before .before .before .before .before .pre in
     reached (pre .1) _ (row-head (pre .0) _ (omega arith) (c .before .before .before .before .before .entry .ensures)) .level
 
 loop-holds : tie.Need-loop-holds Inv-loop μ-loop Inv-rows μ-rows
 loop-holds c =
-    let pre = c .before .before .before .before .before .before .before .before .before .before .before .before .before .pre in
+    let pre = c .before .before .before .before .before .before .before .before .before .before .before .before .pre in
     row-start (pre .0) (pre .1) (omega arith)
     (c .before .before .before .before .before .entry .ensures) (c .before .before .before .if1 .left) (c .before .before .entry2 .ensures) (c .before .entry3 .ensures)
 

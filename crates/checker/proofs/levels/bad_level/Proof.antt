@@ -25,7 +25,7 @@ loop-holds : tie.Need-loop-holds Inv-loop μ-loop
 loop-holds c = (omega arith, λ d r most. lowest-start _)
 
 level-in-range-requires : tie.Need-level-in-range-requires Inv-loop μ-loop
-level-in-range-requires c κs = record { mark = omega arith; value = omega arith; level = omega arith }
+level-in-range-requires c κs = (omega arith, record { value = omega arith; level = omega arith })
 
 returns : tie.Need-returns Inv-loop μ-loop
 unfolding badLevel

@@ -21,14 +21,14 @@ cast-result c = omega (arith, c .before .before .before .shared-slice-known .giv
 
 returns : tie.Need-returns
 returns c = λ d r most.
-    rw (in-range-read r _ (c .before .before .before .before .pre .value), most, eq-eqb _ _ (c .before .if1 .taken), le-leb 1 _ (c .if2 .taken))
+    rw (in-range-read r _ (c .before .before .before .before .pre .1 .value), most, eq-eqb _ _ (c .before .if1 .taken), le-leb 1 _ (c .if2 .taken))
 
 returns-2 : tie.Need-returns-2
 returns-2 c = λ d r most.
-    rw (in-range-read r _ (c .before .before .before .before .pre .value), eq-eqb _ _ (c .before .if1 .taken), lt-leb 1 _ (c .if2 .left))
+    rw (in-range-read r _ (c .before .before .before .before .pre .1 .value), eq-eqb _ _ (c .before .if1 .taken), lt-leb 1 _ (c .if2 .left))
 
 returns-3 : tie.Need-returns-3
-returns-3 c = λ d r most. rw (in-range-read r _ (c .before .before .before .pre .value), ne-eqb _ _ (c .if1 .left))
+returns-3 c = λ d r most. rw (in-range-read r _ (c .before .before .before .pre .1 .value), ne-eqb _ _ (c .if1 .left))
 
 pub level-in-range-spec : {M : Type 1} → statement M
 level-in-range-spec =

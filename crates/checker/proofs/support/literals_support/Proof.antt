@@ -1,4 +1,4 @@
--- `checker::support::literals_support` meets its contract: in every definition that the marks tell, the literals from `i` on all support
+-- `checker::support::literals_support` meets its contract: in every definition whose levels are in range, the literals from `i` on all support
 -- the atom where the whole body does.
 -- Assumes nothing.
 use Prim.Native.Nat.{ℕ, _-_, _≤_}
@@ -8,20 +8,20 @@ use borrow.Author.Tests.{not-true, not-false}
 use Rattle.wellfounded.specs.Definitions.{Definition}
 use Rattle.wellfounded.specs.Levels.{levelAt, supports}
 use Rattle.wellfounded.proofs.Scan.{Scanned, scan-start, scan-turn, scan-stop, scan-end}
-use Rattle.checker.specs.Marks.{Readable}
+use Rattle.checker.specs.Marks.{Ranged}
 use Rattle.checker.proofs.support.literals_support.Statement.{statement}
 use Rattle.checker.proofs.support.literals_support.Tie as tie
 
 abbrev Inv-loop : tie.InvT-loop
-Inv-loop literals size level defined values levels i₀ i =
+Inv-loop literals size level values levels i₀ i =
     (i ≤ size) ×
-    ((d : Definition) (atom : ℕ) → Readable d defined values levels → levelAt levels atom ≡ level → Scanned (supports d values levels atom) literals size i)
+    ((d : Definition) (atom : ℕ) → Ranged d values levels → levelAt levels atom ≡ level → Scanned (supports d values levels atom) literals size i)
 
 abbrev μ-loop : tie.MeasureT-loop
-μ-loop literals size level defined values levels i₀ i = size - i
+μ-loop literals size level values levels i₀ i = size - i
 
 loop-holds : tie.Need-loop-holds Inv-loop μ-loop
-loop-holds c = (omega arith, λ d atom readable at. scan-start)
+loop-holds c = (omega arith, λ d atom ranged at. scan-start)
 
 mul-literal-supports : tie.Need-mul-literal-supports Inv-loop μ-loop
 mul-literal-supports c = omega arith
@@ -31,16 +31,16 @@ shared-slice-read-literal-supports c = omega arith
 
 literal-supports-requires : tie.Need-literal-supports-requires Inv-loop μ-loop
 literal-supports-requires c κs =
-    let pre = c .before .before .before .before .before .before .before .pre in
+    let pre = c .before .before .before .before .before .before .pre in
     let known = pre .0 .known (c .before .before .loop .i) (omega arith) in
-    record { mark = omega arith; value = known; level = omega arith }
+    (record { value = known; level = omega arith }, pre .2)
 
 returns : tie.Need-returns Inv-loop μ-loop
 returns c =
-    λ d atom readable at.
+    λ d atom ranged at.
     sym
-    (scan-stop (omega arith) (omega arith) (sym (c .before .literal-supports .ensures d atom readable at) ∙ not-true _ (c .if1 .taken))
-    (c .before .before .before .before .loop .inv .1 d atom readable at))
+    (scan-stop (omega arith) (omega arith) (sym (c .before .literal-supports .ensures d atom ranged at) ∙ not-true _ (c .if1 .taken))
+    (c .before .before .before .before .loop .inv .1 d atom ranged at))
 
 add-i : tie.Need-add-i Inv-loop μ-loop
 add-i c = omega arith
@@ -51,13 +51,13 @@ loop-less c = omega arith
 loop-again : tie.Need-loop-again Inv-loop μ-loop
 loop-again c = (
   omega arith,
-  λ d atom readable at.
-      scan-turn (omega arith) (omega arith) (sym (c .before .literal-supports .ensures d atom readable at) ∙ not-false _ (c .if1 .left))
-      (c .before .before .before .before .loop .inv .1 d atom readable at),
+  λ d atom ranged at.
+      scan-turn (omega arith) (omega arith) (sym (c .before .literal-supports .ensures d atom ranged at) ∙ not-false _ (c .if1 .left))
+      (c .before .before .before .before .loop .inv .1 d atom ranged at),
 )
 
 returns-2 : tie.Need-returns-2 Inv-loop μ-loop
-returns-2 c = λ d atom readable at. sym (scan-end (omega arith) (c .before .loop .inv .1 d atom readable at))
+returns-2 c = λ d atom ranged at. sym (scan-end (omega arith) (c .before .loop .inv .1 d atom ranged at))
 
 pub literals-support-spec : {M : Type 1} → statement M
 literals-support-spec =

@@ -9,27 +9,21 @@ use lib.Dec.{eqb}
 use lib.ListN.{length}
 use Rattle.tables.specs.Rows.{ruleCount, ruleHead, definitionOf}
 use Rattle.checker.specs.Marks.{supportedBy}
-use Rattle.tables.proofs.MarkLaws.{Marked, marked-start, marked-end, row-puts, row-passes}
+use Rattle.tables.proofs.MarkLaws.{Marked, marked-start, marked-end, row-puts, row-passes, row-again}
 use Rattle.checker.proofs.Supported.{supportsRow}
 use Rattle.checker.proofs.support.mark_supported.Statement.{statement}
 use Rattle.checker.proofs.support.mark_supported.Tie as tie
 
 abbrev Inv-loop : tie.InvT-loop
-Inv-loop rules literals defined values levels supported₀ rows row₀ supported row =
+Inv-loop rules literals values levels supported₀ rows row₀ supported row =
     (row ≤ rows) ×
     Marked (λ r atom. eqb (ruleHead rules r) atom && supportsRow (definitionOf (length values) rules literals) rules literals values levels r) supported₀ row supported
 
 abbrev μ-loop : tie.MeasureT-loop
-μ-loop rules literals defined values levels supported₀ rows row₀ supported row = rows - row
+μ-loop rules literals values levels supported₀ rows row₀ supported row = rows - row
 
 loop-holds : tie.Need-loop-holds Inv-loop μ-loop
 loop-holds c = (omega arith, marked-start _ _)
-
-row-supports-requires : tie.Need-row-supports-requires Inv-loop μ-loop
-unfolding ruleCount
-row-supports-requires c κs =
-    let pre = c .before .before .before .before .before .before .before .before .pre in
-    (c .loop-test .taken, (pre .0, pre .1 .0))
 
 mul-entry : tie.Need-mul-entry Inv-loop μ-loop
 mul-entry c = omega arith
@@ -37,11 +31,23 @@ mul-entry c = omega arith
 entry-requires : tie.Need-entry-requires Inv-loop μ-loop
 entry-requires c κs = omega arith
 
+slice-read-if1 : tie.Need-slice-read-if1 Inv-loop μ-loop
+unfolding ruleHead ruleCount
+slice-read-if1 c =
+    let pre = c .before .before .before .before .before .before .before .before .before .pre in
+    omega (arith, pre .0 .heads _ (c .before .before .loop-test .taken))
+
+row-supports-requires : tie.Need-row-supports-requires Inv-loop μ-loop
+unfolding ruleCount
+row-supports-requires c κs =
+    let pre = c .before .before .before .before .before .before .before .before .before .before .pre in
+    (c .before .before .before .loop-test .taken, (pre .0, pre .1 .0))
+
 slice-write-supported : tie.Need-slice-write-supported Inv-loop μ-loop
 unfolding ruleHead ruleCount
 slice-write-supported c =
-    let pre = c .before .before .before .before .before .before .before .before .before .before .before .pre in
-    omega (arith, pre .0 .heads _ (c .before .before .before .loop-test .taken))
+    let pre = c .before .before .before .before .before .before .before .before .before .before .before .before .pre in
+    omega (arith, pre .0 .heads _ (c .before .before .before .before .before .loop-test .taken))
 
 add-row : tie.Need-add-row Inv-loop μ-loop
 add-row c = omega arith
@@ -51,13 +57,15 @@ loop-less c = omega arith
 
 loop-again : tie.Need-loop-again Inv-loop μ-loop
 unfolding ruleHead
-loop-again c = (
-  omega arith,
-  ⊎-elim
-      (λ w. rw (w .2) (row-puts _ _ _ _ _ _ (w .1 .ensures .is) (sym (c .before .row-supports .ensures) ∙ w .0 .taken) (c .before .before .before .loop .inv .1)))
-      (λ w. rw (w .1) (row-passes _ _ _ _ _ (sym (c .before .row-supports .ensures) ∙ w .0 .left) (c .before .before .before .loop .inv .1)))
-      (c .if1 .came),
-)
+loop-again c =
+    let head = c .before .before .entry .ensures .is in
+    let marked = c .before .before .before .before .loop .inv .1 in (
+      omega arith,
+      ⊎-elim (λ w. rw (w .3) (row-puts _ _ _ _ _ _ head (sym (w .1 .ensures) ∙ w .2 .taken) marked))
+          (λ w.
+          rw (w .1) (⊎-elim (λ t. row-passes _ _ _ _ _ (sym (t .1 .ensures) ∙ t .2 .left) marked) (λ t. row-again _ _ _ _ _ _ head (t .left) marked) (w .0 .came)))
+          (c .if1 .came),
+    )
 
 same-length : tie.Need-same-length Inv-loop μ-loop
 same-length c = c .before .loop .inv .1 .long
@@ -73,9 +81,10 @@ mark-supported-spec =
     Inv-loop
     μ-loop
     loop-holds
-    row-supports-requires
     mul-entry
     entry-requires
+    slice-read-if1
+    row-supports-requires
     slice-write-supported
     add-row
     loop-less

@@ -7,6 +7,7 @@ use borrow.Author.Needs.{needs}
 use Rattle.wellfounded.specs.Levels.{levelAt}
 use Rattle.tables.specs.Rows.{ruleCount, ruleHead, ruleStart, ruleSize, ruleBody}
 use Rattle.tables.proofs.MarkLaws.{true-at}
+use Rattle.checker.proofs.LevelScans.{head-high}
 use Rattle.checker.proofs.support.row_supports.Statement.{statement}
 use Rattle.checker.proofs.support.row_supports.Tie as tie
 
@@ -20,12 +21,12 @@ entry-requires c κs = omega arith
 
 shared-slice-read-if1 : tie.Need-shared-slice-read-if1
 unfolding ruleHead
-shared-slice-read-if1 c = let pre = c .before .before .before .before .before .before .before .pre in omega (arith, pre .1 .0 .heads _ (pre .0))
+shared-slice-read-if1 c = let pre = c .before .before .before .before .before .before .pre in omega (arith, pre .1 .0 .heads _ (pre .0))
 
 returns : tie.Need-returns
 unfolding ruleHead
 returns c =
-    let pre = c .before .before .before .before .before .before .before .before .pre in
+    let pre = c .before .before .before .before .before .before .before .pre in
     let within = pre .1 .0 .heads _ (pre .0) in
     rw (true-at, ← c .before .before .entry .ensures .is, ne-eqb _ _ (c .if1 .taken))
 
@@ -59,19 +60,19 @@ mul-body-supports c = search needs
 shared-slice-read-body-supports : tie.Need-shared-slice-read-body-supports
 unfolding ruleHead
 shared-slice-read-body-supports c =
-    let pre = c .before .before .before .before .before .before .before .before .before .before .before .pre in
+    let pre = c .before .before .before .before .before .before .before .before .before .before .pre in
     omega (arith, pre .1 .0 .heads _ (pre .0))
 
 body-supports-requires : tie.Need-body-supports-requires
-unfolding ruleStart ruleSize
+unfolding ruleCount ruleStart ruleSize
 body-supports-requires c κs =
-    let pre = c .before .before .before .before .before .before .before .before .before .before .before .pre in
-    (record { within = omega (arith, pre .1 .0 .within _ (pre .0)); known = pre .1 .0 .known }, omega arith, omega arith)
+    let pre = c .before .before .before .before .before .before .before .before .before .before .pre in
+    (record { within = omega (arith, pre .1 .0 .within _ (pre .0)); known = pre .1 .0 .known }, omega arith, head-high (pre .1 .0) _ (pre .0) (pre .1 .1) (c .before .before .before .before .before .entry .ensures))
 
 returns-2 : tie.Need-returns-2
 unfolding ruleHead ruleStart ruleSize ruleBody levelAt
 returns-2 c =
-    let pre = c .before .before .before .before .before .before .before .before .before .before .before .before .pre in
+    let pre = c .before .before .before .before .before .before .before .before .before .before .before .pre in
     let within = pre .1 .0 .heads _ (pre .0) in
     rw (
       true-at,
