@@ -2,7 +2,7 @@
 # make lib               build/libbattenplum.a beside its header
 # make install [PREFIX=] program, library, header, pkg-config file and manual pages
 # make cross [SEED= COUNT=] library and program against solvers in another language
-# make bench             times of the C calls against a fast version in another language
+# make bench [QUICK=1]   times of the C calls against a fast version in another language
 # make test              the whole gate
 BOOK ?= examples/contact.book
 PREFIX ?= /usr/local
@@ -41,7 +41,7 @@ cross: build/battenplum build/libbattenplum.a
 	@$(CARGO) run $(CROSS) --bin differ -- $(if $(SEED),--seed $(SEED)) $(if $(COUNT),--count $(COUNT))
 
 bench: build/libbattenplum.a
-	@$(CARGO) run $(CROSS) --bin bench
+	@$(CARGO) run $(CROSS) --bin bench -- $(if $(QUICK),--quick)
 
 # The last line is that of the prover, and is printed only if everything else has passed too.
 test:

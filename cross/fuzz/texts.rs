@@ -10,7 +10,6 @@ use cross::{
         case::Case,
         guarded::GuardedLibrary,
         lengths,
-        random::Random,
         session::{Compared, Session},
         side::Side,
     },
@@ -18,6 +17,7 @@ use cross::{
     solver::Solver,
 };
 use std::{process, slice};
+use cross::random::Random;
 
 thread_local! {
     static LIBRARY: GuardedLibrary = GuardedLibrary::default();

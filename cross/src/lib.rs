@@ -8,4 +8,5 @@ pub mod book;
 pub mod calls;
 pub mod differ;
 pub mod fast;
+pub mod random;
 pub mod solver;

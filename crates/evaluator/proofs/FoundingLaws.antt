@@ -10,7 +10,7 @@ use native.Mathlib.Numerals.{add-one}
 use native.Mathlib.Omega.{arith}
 use lib.Dec.{eqb}
 use lib.ListN.{length, getD, set, length-set}
-use lib.Seq.{ext-getD, getD-set-same, getD-set-other, set-getD, set-out}
+use lib.Seq.{ext-getD, getD-set-same, getD-set-other, set-out}
 use borrow.Author.Tests.{eqb-true, eqb-false, ne-eqb}
 use Rattle.wellfounded.specs.Lists.{iterate, count}
 use Rattle.wellfounded.specs.Literals.{isTrue, valueAt}
@@ -19,6 +19,7 @@ use Rattle.wellfounded.proofs.Lists.{length-tabulate, getD-tabulate, iterate-fi
 use Rattle.wellfounded.proofs.Literals.{value-beyond}
 use Rattle.tables.specs.Rows.{ruleCount, ruleHead}
 use Rattle.tables.specs.Marks.{isMarked}
+use Rattle.tables.proofs.MarkLaws.{set-again}
 use Rattle.evaluator.specs.Founding.{rowFounds, foundRow, foundRows, foundPass, foundStart, foundAll, unmarked, Passed}
 
 -- ── The marks to begin with ──
@@ -91,10 +92,6 @@ unmarked-set marks head l new =
     (count-flip (length marks) _ _ head l (rw (ne-eqb _ _ new)) (rw (getD-set-same marks head 1 0 l))
     (λ atom other. rw (getD-set-other marks head atom 1 0 other)))
 
--- A mark that is there already.
-pub set-marked : (marks : List ℕ) (head : ℕ) → getD marks head 0 ≡ 1 → set marks head 1 ≡ marks
-set-marked marks head e = subst (λ (v : ℕ). set marks head v ≡ marks) e (set-getD marks head 0)
-
 -- ── A row and a pass ──
 
 -- The code's row, which reads the head first.
@@ -102,7 +99,7 @@ module _ (rules literals state marks : List ℕ) (row head : ℕ) (is : head ≡
   -- A row whose head is marked changes nothing,
   pub row-marked : getD marks head 0 ≡ 1 → marks ≡ foundRow rules literals state marks row
   unfolding foundRow
-  row-marked e = rw (← is, set-marked marks head e) (step (rowFounds rules literals state marks row))
+  row-marked e = rw (← is, set-again marks head e) (step (rowFounds rules literals state marks row))
     where
       step : (b : Bool) → marks ≡ cond b marks marks
       step true = refl

@@ -80,7 +80,8 @@ more-digit n d bs l =
     let e : 48 + d - 48 ≡ d = omega arith in
     rw (is-digit d l, e)
 
-more-end : (n : ℕ) (rest : List ℕ) → startsWithDigit rest ≡ false → moreDigits n rest ≡ got n rest
+-- Digits end where no digit follows.
+pub more-end : (n : ℕ) (rest : List ℕ) → startsWithDigit rest ≡ false → moreDigits n rest ≡ got n rest
 unfolding moreDigits startsWithDigit
 more-end n [] e = refl
 more-end n (b ∷ bs) e = rw e

@@ -14,6 +14,7 @@ use Rattle.wellfounded.proofs.Tests.{first, second, not-both, clash}
 use Rattle.format.specs.declared.numbers.Number.the-variants.{Read, Refused}
 use Rattle.format.specs.Parse.{got, isDigit, moreDigits, startsWithDigit, readNumber}
 use Rattle.format.specs.Offsets.{beyondLimits, capped, answered, digitAt, digitsAt, numberAt}
+use Rattle.format.proofs.Decimals.{more-end}
 use Rattle.format.proofs.CappedLaws.{capped-small, capped-limit, capped-digit}
 
 -- What digits are read does not depend on what was lost beyond the limit.
@@ -39,16 +40,11 @@ module _ (text : List ℕ) (at : ℕ) where
   digit-beyond l = rw (drop-of-length-le text l)
 
 -- Digits end where none stands.
-digits-none : (n : ℕ) (bs : List ℕ) → startsWithDigit bs ≡ false → moreDigits n bs ≡ got n bs
-unfolding moreDigits startsWithDigit
-digits-none n [] f = refl
-digits-none n (b ∷ bs) f = rw f
-
 digits-over : (text : List ℕ) (at n : ℕ) → at ≤ length text → n ≤ beyondLimits → digitAt text at ≡ false → digitsAt text at n ≡ Read n at
 unfolding digitAt digitsAt answered
 digits-over text at n l s f =
     let e : length text - (length text - at) ≡ at = omega arith in
-    rw (digits-none n (drop at text) f) (rw (capped-small n s, length-drop at text, e))
+    rw (more-end n (drop at text) f) (rw (capped-small n s, length-drop at text, e))
 
 -- The loop has come to `next` with `total`: what it would make of the digits from there on is what it makes of all of them.
 pub record Digits (text : List ℕ) (at value next total : ℕ) : Type 0 where

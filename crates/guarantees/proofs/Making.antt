@@ -27,7 +27,7 @@ use Rattle.tables.specs.Faults.{Test, Absent, firstFault, lowest, numberOf, fau
 use Rattle.tables.specs.Rows.{definitionOf}
 use Rattle.tables.specs.Sound.{Tables, bookOf, tableTests, sliceTest, Sound}
 use Rattle.tables.specs.Satisfied.{clauseTest, loadTest, satisfactionTests}
-use Rattle.tables.proofs.Faults.{lowest-at, lowest-found, first-passes, first-fails, absent-none, absent-more, accepted-absent, absent-accepted, refused-by, first-append, first-append-refused}
+use Rattle.tables.proofs.Faults.{refused-accepted, lowest-at, lowest-found, first-passes, first-fails, absent-none, absent-more, accepted-absent, absent-accepted, refused-by, first-append, first-append-refused}
 use Rattle.tables.proofs.Numbers.{zero-accepted}
 use Rattle.tables.proofs.SoundTables.{slices-absent, length-none, length-more}
 use Rattle.tables.proofs.Satisfied.{absent-satisfies, satisfies-absent}
@@ -38,9 +38,6 @@ use Rattle.evaluator.specs.Evaluate.{badSetting, settingTest, undecidedTest, re
 use Rattle.guarantees.specs.Settings.{LentSetting, stopTests, Good}
 
 -- ── The faults that a list of tests can answer ──
-
-refused-accepted : {fault : Fault} {position : ℕ} → Refused fault position ≡ Accepted → ⊥
-refused-accepted e = let z : _≡_ {A = ℕ} 0 1 = cc in omega arith
 
 refused-among :
     (ok : Fault → Bool) (ts : List Test) → all (λ (x : Test). ok (x .fault)) ts ≡ true →

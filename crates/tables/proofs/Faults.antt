@@ -138,7 +138,8 @@ once-passes bad good = lowest-turn bad 0 (lowest-start bad) good
 pub once-fails : (bad : ℕ → Bool) → bad 0 ≡ true → lowest 1 bad ≡ At 0
 once-fails bad fails = lowest-stop bad 0 1 (lowest-start bad) fails (omega arith)
 
-refused-accepted : {f : Fault} {p : ℕ} → Refused f p ≡ Accepted → ⊥
+-- A refusal is no acceptance.
+pub refused-accepted : {f : Fault} {p : ℕ} → Refused f p ≡ Accepted → ⊥
 refused-accepted e = let z : _≡_ {A = ℕ} 0 1 = cc in omega arith
 
 -- The first test decides, or leaves the verdict to the rest.

@@ -1,7 +1,7 @@
 -- Laws of marks: what a mark reads, and a loop over rule rows that puts 1 at the atoms which pass a test of the row.
 -- Assumes nothing.
 use Prim.Native.Nat.{ℕ, zero, suc, _+_, _≤_, _<_}
-use mathlib.Core.Path.{_≡_, refl, sym, ap, _∙_, fun-ext}
+use mathlib.Core.Path.{_≡_, refl, sym, ap, subst, _∙_, fun-ext}
 use mathlib.Core.Logic.{⊎-elim}
 use mathlib.Core.Bool.{Bool, true, false, not, cond, _&&_, _||_, false≢true, or-false}
 use mathlib.Core.List.{List}
@@ -9,7 +9,7 @@ use native.Mathlib.Numerals.{add-one}
 use native.Mathlib.Omega.{arith}
 use lib.Dec.{eqb, ltb}
 use lib.ListN.{length, getD, set, length-set, replicate, length-replicate, getD-replicate}
-use lib.Seq.{ext-getD, getD-set-same, getD-set-other}
+use lib.Seq.{ext-getD, getD-set-same, getD-set-other, set-getD}
 use borrow.Author.Tests.{eqb-true, eqb-false, eq-eqb, ne-eqb, lt-ltb, le-ltb}
 use Rattle.wellfounded.specs.Lists.{anyBelow, count}
 use Rattle.wellfounded.specs.Literals.{isTrue, valueAt}
@@ -93,17 +93,8 @@ mark-one earlier later marks head now others =
         (decided (eqb atom head))
 
 -- A mark that is put again changes nothing.
-set-again : (marks : List ℕ) (head : ℕ) → getD marks head 0 ≡ 1 → set marks head 1 ≡ marks
-set-again marks head marked =
-    ext-getD 0 _ _ (length-set marks head 1) (λ atom l. step atom (rw length-set at l))
-  where
-    step : (atom : ℕ) → atom < length marks → getD (set marks head 1) atom 0 ≡ getD marks atom 0
-    step atom l =
-        ⊎-elim
-        (λ (t : eqb atom head ≡ true).
-        let within : head < length marks = omega (arith, eqb-true) in
-        rw (eqb-true atom head t, marked, getD-set-same marks head 1 0 within))
-        (λ (f : eqb atom head ≡ false). getD-set-other marks head atom 1 0 (eqb-false _ _ f)) (decided (eqb atom head))
+pub set-again : (marks : List ℕ) (head : ℕ) → getD marks head 0 ≡ 1 → set marks head 1 ≡ marks
+set-again marks head marked = subst (λ (v : ℕ). set marks head v ≡ marks) marked (set-getD marks head 0)
 
 -- The loop has passed n rows: an atom is marked if one of them passes the test with it, or if it was marked before.
 pub record Marked (p : ℕ → ℕ → Bool) (before : List ℕ) (n : ℕ) (marks : List ℕ) : Type 0 where

@@ -1,7 +1,7 @@
 //! Chains and loops: every defined atom rests on the one before it, and on one open literal that is true.
 
-use super::random::Random;
 use crate::book::Book;
+use crate::random::Random;
 
 /// How a chain is laid.
 #[derive(Clone, Copy, PartialEq, Eq, Debug)]

@@ -1,8 +1,8 @@
 //! A dispatch book as a station would keep it: calls with contact and acknowledgement, escalation, and duty loads of two pilots for
 //! every eight calls.
 
-use super::random::Random;
 use crate::book::Book;
+use crate::random::Random;
 
 /// Atoms of one call, in turn.
 const ATOMS: usize = 16;

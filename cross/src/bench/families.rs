@@ -4,10 +4,10 @@ use super::chains::{self, Chain};
 use super::dispatch;
 use super::layout::{claim_form, lines, open_form};
 use super::mixed::{self, Measure};
-use super::random::Random;
 use crate::book::{Book, Claim};
 use crate::calls::Calls;
 use crate::fast::Fast;
+use crate::random::Random;
 
 #[derive(Clone, Copy, PartialEq, Eq, Debug)]
 pub enum Family {

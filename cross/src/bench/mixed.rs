@@ -1,7 +1,7 @@
 //! Random books that are decided whatever the open atoms are: rules negate only atoms of earlier blocks.
 
-use super::random::Random;
 use crate::book::{Book, Claim};
+use crate::random::Random;
 
 /// How much of each table a book fills.
 #[derive(Clone, Copy)]

@@ -6,6 +6,5 @@ pub mod families;
 pub mod layout;
 pub mod measure;
 pub mod mixed;
-pub mod random;
 pub mod stack;
 pub mod timing;

@@ -6,11 +6,11 @@
 //! difference is printed with the smallest case that shows it, and the status is then 1. With `--faults` each deliberate fault is
 //! put into the solver in turn, and the status is 0 only if every one is noticed.
 
+use cross::random::Random;
 use cross::{
     calls::Library,
     differ::{
         families::{self, Family},
-        random::Random,
         refusals,
         session::{Found, Session},
         side::Side,

@@ -11,10 +11,10 @@ use cross::differ::{
     families,
     guarded::GuardedLibrary,
     pages::{Edge, Pages},
-    random::Random,
     session::Session,
     side::Side,
 };
+use cross::random::Random;
 use cross::solver::Solver;
 use std::{env, process::ExitCode};
 

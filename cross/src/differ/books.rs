@@ -1,9 +1,7 @@
 //! Random books of many shapes.
 
-use super::{
-    forms::{Forms, Load, Rule},
-    random::Random,
-};
+use super::forms::{Forms, Load, Rule};
+use crate::random::Random;
 
 /// What the rules look like. Shapes differ in how long the stages go on and in what holds an atom up.
 #[derive(Clone, Copy, Debug)]

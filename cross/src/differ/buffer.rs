@@ -1,6 +1,6 @@
 //! A lent slice inside a larger buffer, so that whatever a call does beside it is seen.
 
-use super::random::Random;
+use crate::random::Random;
 use std::fmt::Display;
 
 /// How many entries stand on either side of the lent ones.

@@ -1,7 +1,7 @@
 //! Claims with one thing wrong, or nearly so.
 
-use super::random::Random;
 use crate::book::Claim;
+use crate::random::Random;
 
 /// Of a claim on at least one atom.
 pub fn damaged(random: &mut Random, claim: &Claim) -> Claim {

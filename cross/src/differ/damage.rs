@@ -1,6 +1,6 @@
 //! Texts with one thing wrong, or nearly so.
 
-use super::random::Random;
+use crate::random::Random;
 
 /// Bytes that stand in texts, and some that never do.
 const BYTES: &[u8] = b"0123456789()- \natomsrulecloadpenimx\t\r\0A,.+\xFF\x80/:`{";

@@ -1,6 +1,7 @@
 //! All slices that are lent to one call, each inside its own buffer.
 
-use super::{buffer::Buffer, case::Case, random::Random};
+use super::{buffer::Buffer, case::Case};
+use crate::random::Random;
 use crate::{
     book::{Book, Lengths},
     calls::{Tables, TablesToFill},

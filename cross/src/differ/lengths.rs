@@ -1,7 +1,7 @@
 //! Lengths of the tables that are lent to a reader: just so, one entry short, or any.
 
-use super::random::Random;
 use crate::book::{Lengths, Read};
+use crate::random::Random;
 
 /// Lengths about those that a text needs, which `read` was read from.
 pub fn about(random: &mut Random, read: &Read) -> Lengths {

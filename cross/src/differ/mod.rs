@@ -14,7 +14,6 @@ pub mod lending;
 pub mod lengths;
 pub mod outcome;
 pub mod pages;
-pub mod random;
 mod readings;
 pub mod refusals;
 mod samples;

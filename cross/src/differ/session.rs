@@ -4,10 +4,10 @@ use super::{
     case::Case,
     lending::Lending,
     outcome::{expected, Outcome},
-    random::Random,
     shrink::smallest,
     side::Side,
 };
+use crate::random::Random;
 use crate::{
     book::{Lengths, Read, State, Verdict},
     solver::Solver,

@@ -1,6 +1,6 @@
 //! Settings: a value for each open atom, and 0 at defined ones.
 
-use super::random::Random;
+use crate::random::Random;
 
 /// Every setting. `defined` says of each atom whether it heads a rule.
 pub fn every(defined: &[bool]) -> Vec<Vec<u8>> {

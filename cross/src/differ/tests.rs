@@ -4,12 +4,12 @@ use super::{
     case::Case,
     lending::Lending,
     outcome::{expected, Answer, Outcome},
-    random::Random,
     refusals,
     session::Session,
     shrink::smallest,
     side::Side,
 };
+use crate::random::Random;
 use crate::{
     book::{Book, Lengths},
     calls::{Calls, Tables, TablesToFill},

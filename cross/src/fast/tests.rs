@@ -1,9 +1,9 @@
 //! `Fast` against the library: every answer and every slice whole, on random texts and tables, sound ones and others.
 
 use super::Fast;
-use crate::bench::random::Random;
 use crate::book::{Book, Verdict};
 use crate::calls::{Calls, Library, TablesToFill};
+use crate::random::Random;
 use std::collections::BTreeSet;
 
 /// Lent to a reader, with content of its own in every entry.
@@ -68,14 +68,14 @@ fn text(random: &mut Random) -> Vec<u8> {
         let terms = several(random, |random| format!("({} {})", signed(random, 1_441), literal(random)));
         lines.push(format!("(load {} {}{terms})", signed(random, 300), signed(random, 1_000_001)));
     }
-    lines.push(if random.once_in(2) {
-        let atoms: String = (0..n).filter(|_| random.once_in(3)).map(|atom| format!(" {atom}")).collect();
+    lines.push(if random.one_in(2) {
+        let atoms: String = (0..n).filter(|_| random.one_in(3)).map(|atom| format!(" {atom}")).collect();
         format!("(open{atoms})")
     } else {
         let pairs: String = (0..n).map(|_| format!(" ({} {})", random.below(2), random.below(3))).collect();
         format!("(claim{pairs})")
     });
-    if random.once_in(8) {
+    if random.one_in(8) {
         let (here, there) = (random.below(lines.len()), random.below(lines.len()));
         lines.swap(here, there);
     }
@@ -150,7 +150,7 @@ fn long_texts_are_read_alike() {
 
 /// A number below `limit`, or rarely the limit itself.
 fn mostly_below(limit: usize, random: &mut Random) -> usize {
-    if limit == 0 || random.once_in(90) {
+    if limit == 0 || random.one_in(90) {
         limit
     } else {
         random.below(limit)
@@ -180,7 +180,7 @@ fn book(random: &mut Random) -> Book {
     book.literals = (0..literals).map(|_| mostly_below(2 * n, random) as u16).collect();
     book.load_literals = (0..terms).map(|_| mostly_below(2 * n, random) as u16).collect();
     book.minutes = (0..terms).map(|_| signed(random, 1_441) as i16).collect();
-    if random.once_in(30) {
+    if random.one_in(30) {
         book.rules.push(0);
     }
     book
@@ -189,7 +189,7 @@ fn book(random: &mut Random) -> Book {
 fn load_row(terms: usize, random: &mut Random) -> [i32; 4] {
     let [start, count] = part(terms, random).map(|entry| entry as i32);
     let mut row = [-(random.below(300) as i32), random.below(300) as i32, start, count];
-    if random.once_in(12) {
+    if random.one_in(12) {
         row[random.below(4)] = [i32::MAX, i32::MIN, -1, 1_000_001, -1_000_001][random.below(5)];
     }
     row
@@ -197,11 +197,11 @@ fn load_row(terms: usize, random: &mut Random) -> [i32; 4] {
 
 /// Values for the open atoms and, rarely, something else or something at a defined atom.
 fn open_values(book: &Book, random: &mut Random) -> Vec<u8> {
-    let length = book.n + usize::from(random.once_in(60));
+    let length = book.n + usize::from(random.one_in(60));
     let mut open: Vec<u8> = (0..length).map(|_| mostly_below(2, random) as u8).collect();
     for &head in book.rules.iter().step_by(3) {
         if let Some(value) = open.get_mut(usize::from(head)) {
-            *value *= u8::from(random.once_in(40));
+            *value *= u8::from(random.one_in(40));
         }
     }
     open
@@ -214,7 +214,7 @@ fn tables_are_judged_alike() {
     for _ in 0..60_000 {
         let book = book(&mut random);
         let open = open_values(&book, &mut random);
-        let mut length = || book.n + usize::from(random.once_in(60));
+        let mut length = || book.n + usize::from(random.one_in(60));
         let slices = (vec![9; length()], vec![9; length()], vec![9; length()]);
         let made = [&Fast as &dyn Calls, &Library].map(|calls| {
             let (mut values, mut levels, mut work) = slices.clone();

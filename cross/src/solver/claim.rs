@@ -96,8 +96,9 @@ impl Claimed<'_> {
 
 #[cfg(test)]
 mod tests {
-    use super::super::random::Random;
+    use super::super::small_books::definition;
     use super::*;
+    use crate::random::Random;
 
     const SOLVER: Solver = Solver { fault: None };
 
@@ -119,11 +120,11 @@ mod tests {
     /// For every setting: a claim is accepted only with the values of the well-founded model, and the maker's own claim is.
     #[test]
     fn accepted_claims_are_the_model() {
-        let mut random = Random(7);
+        let mut random = Random::new(7);
         let mut accepted = 0;
         for _ in 0..400 {
             let n = 1 + random.below(3);
-            let book = random.definition(n, 6, 3);
+            let book = definition(&mut random, n, 6, 3);
             let defined = Decoded::new(&book).defined;
             for (values, levels) in all_claims(n) {
                 let verdict = SOLVER.check(&book, &values, &levels);

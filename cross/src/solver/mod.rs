@@ -18,9 +18,9 @@ mod stages;
 mod tables;
 
 #[cfg(test)]
-mod random;
-#[cfg(test)]
 mod samples;
+#[cfg(test)]
+mod small_books;
 
 pub use fault::Fault;
 

@@ -98,8 +98,9 @@ fn hold(stage: &mut Stage, atom: usize, value: bool) {
 
 #[cfg(test)]
 mod tests {
-    use super::super::random::Random;
+    use super::super::small_books::definition;
     use super::*;
+    use crate::random::Random;
 
     const SOLVER: Solver = Solver { fault: None };
 
@@ -128,11 +129,11 @@ mod tests {
 
     #[test]
     fn largest_unfounded_set_is_the_union_of_all() {
-        let mut random = Random(11);
+        let mut random = Random::new(11);
         let mut beyond_one = 0;
         for _ in 0..2_000 {
             let n = 1 + random.below(6);
-            let book = Decoded::new(&random.definition(n, 12, 3));
+            let book = Decoded::new(&definition(&mut random, n, 12, 3));
             let stage: Stage = (0..n).map(|_| [None, Some(false), Some(true)][random.below(3)]).collect();
             let largest = SOLVER.largest_unfounded_set(&book, &stage);
             assert_eq!(largest, largest_by_trying(&book, &stage), "{book:?}");

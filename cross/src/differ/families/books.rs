@@ -1,13 +1,13 @@
 //! Random books of all shapes, from one atom up to the limits, small ones under every setting: the maker, and the check of what it
 //! made.
 
+use crate::random::Random;
 use crate::{
     book::{Book, Verdict},
     differ::{
         books::{add_conditions, definition, tighten, Shape},
         case::Case,
         forms::{Forms, Load, Rule},
-        random::Random,
         session::{Compared, Found, Session},
         settings,
     },

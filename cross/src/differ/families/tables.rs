@@ -1,13 +1,13 @@
 //! Tables as a careless host lends them: wrong lengths, rows past the end and over each other, places that no row uses, extreme
 //! numbers.
 
+use crate::random::Random;
 use crate::{
     book::{Book, Claim},
     differ::{
         books::{add_conditions, definition, Shape},
         case::{Case, Written},
         claims,
-        random::Random,
         session::{Compared, Session},
     },
 };

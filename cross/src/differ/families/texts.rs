@@ -1,5 +1,6 @@
 //! Texts written from random books, and damaged ones, read into tables of many lengths.
 
+use crate::random::Random;
 use crate::{
     book::{Claim, Lengths, Read},
     differ::{
@@ -9,7 +10,6 @@ use crate::{
         damage::damaged,
         forms::{claim_form, open_form, Forms},
         lengths,
-        random::Random,
         session::{Compared, Session},
         settings,
     },
