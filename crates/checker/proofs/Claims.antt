@@ -1,7 +1,7 @@
 -- On sound tables no fault of the claim occurs exactly if the claim is right.
 -- Assumes nothing.
 use Prim.Native.Nat.{ℕ, _<_}
-use mathlib.Core.Path.{_≡_, refl, sym, ap, subst, _∙_}
+use mathlib.Core.Path.{_≡_, refl, sym, ap, _∙_}
 use mathlib.Core.Bool.{true, not}
 use mathlib.Core.List.{List, [], _∷_, List·Memᴰ, List·Memᴰ·head, List·Memᴰ·tail}
 use lib.ListN.{length}
@@ -19,7 +19,7 @@ use Rattle.tables.specs.Rows.{ruleCount, ruleHead, ruleBody, ruleAt, rulesOf, d
 use Rattle.tables.specs.Sound.{Tables, bookOf, Sound}
 use Rattle.tables.proofs.Faults.{absent-more}
 use Rattle.tables.proofs.SoundTables.{sound-rules, slices-fit}
-use Rattle.tables.proofs.Satisfied.{absent-satisfies, satisfies-absent}
+use Rattle.satisfaction.proofs.Satisfied.{absent-satisfies, satisfies-absent}
 use Rattle.tables.specs.Marks.{notHeld}
 use Rattle.checker.specs.Check.{badLevel, unsupported, unblocked, valueTest, levelTest, supportTest, blockingTest, levelTests, claimTests, RightClaim}
 use Rattle.checker.proofs.LevelScans.{head-defined}
@@ -71,20 +71,14 @@ module _ (t : Tables) (values levels : List ℕ) where
           in
           (found .0, found .1, blocks-use d values levels head (found .0) (found .2))
 
-      moved :
-          (atom row : ℕ) → ruleHead (t .rules) row ≡ atom →
-          (literal : ℕ) × List·Memᴰ literal (ruleBody (t .rules) (t .literals) row) × Blocks (bookOf t) values levels (ruleHead (t .rules) row) literal →
-          (literal : ℕ) × List·Memᴰ literal (ruleBody (t .rules) (t .literals) row) × Blocks (bookOf t) values levels atom literal
-      moved atom row e found = (found .0, found .1, subst (λ (a : ℕ). Blocks (bookOf t) values levels a (found .0)) e (found .2))
-
       blocked :
           (atom : ℕ) → isDefined (bookOf t) atom ≡ true → isFalse (valueAt values atom) ≡ true →
           (r : Rule) → List·Memᴰ r (bookOf t .rules) → r .head ≡ atom →
           (literal : ℕ) × List·Memᴰ literal (r .body) × Blocks (bookOf t) values levels atom literal
       blocked atom d f r m e =
           let at = rule-row r m in
-          subst (λ (x : Rule). x .head ≡ atom → (literal : ℕ) × List·Memᴰ literal (x .body) × Blocks (bookOf t) values levels atom literal) (sym (at .2))
-          (λ head. moved atom (at .0) head (blocked-row (at .0) (at .1) (ap (λ (a : ℕ). isFalse (valueAt values a)) head ∙ f))) e
+          let head : ruleHead (t .rules) (at .0) ≡ atom = ap (λ (x : Rule). x .head) (sym (at .2)) ∙ e in
+          rw (at .2, ← head) (blocked-row (at .0) (at .1) (rw head f))
 
   pub right-claim : Sound t lengths → RightClaim t values levels → (test : Test) → List·Memᴰ test (claimTests t values levels) → Absent test
   unfolding claimTests levelTests valueTest levelTest supportTest blockingTest notHeld badLevel unsupported unblocked bookOf definitionOf rulesOf ruleAt

@@ -1,15 +1,15 @@
 -- What the check's scans read: values, marks and levels as the code tests them, and the rows of the rule table.
 -- Assumes nothing.
-use Prim.Native.Nat.{ℕ, zero, suc, _+_, _-_, _*_, _/_, _%_, _≤_, _<_}
+use Prim.Native.Nat.{ℕ, zero, suc, _+_, _-_, _%_, _≤_, _<_}
 use mathlib.Core.Path.{_≡_, refl, sym, ap, _∙_}
 use mathlib.Core.Logic.{⊎-elim}
 use mathlib.Core.Bool.{Bool, true, false, not, cond, _&&_, _||_, or-false}
-use mathlib.Core.List.{List, [], _∷_}
+use mathlib.Core.List.{List}
 use native.Mathlib.Omega.{arith}
 use lib.Dec.{leb, ltb, eqb}
 use lib.ListN.{length, getD, take, drop}
 use borrow.Author.Tests.{not-false, ltb-true, leb-true, lt-ltb, le-leb, eq-eqb, ne-eqb}
-use Rattle.wellfounded.specs.Lists.{all, any}
+use Rattle.wellfounded.specs.Lists.{any}
 use Rattle.wellfounded.specs.Literals.{valueAt, atomOf, isPositive, isNegated, literalTrue, bodyAt, Scannable}
 use Rattle.wellfounded.specs.Definitions.{Definition, isDefined, isOpen, definedCount}
 use Rattle.wellfounded.specs.Levels.{levelAt, supports, blocks, levelInRange}
@@ -18,13 +18,13 @@ use Rattle.wellfounded.proofs.Lists.{getD-default, anyBelow-make}
 use Rattle.wellfounded.proofs.Literals.{false-test, false-read, positive-not-negated, not-negated-positive}
 use Rattle.wellfounded.proofs.Definitions.{defined-below, open-below}
 use Rattle.wellfounded.proofs.Levels.{levelInRange-open, levelInRange-defined}
-use Rattle.wellfounded.proofs.Scan.{Scanned, scan-start, scan-turn, scan-stop, scan-end, part-body, part-scannable}
-use Rattle.tables.specs.declared.Found.the-variants.{Nothing}
+use Rattle.wellfounded.proofs.Scan.{Sought, seek-start, seek-turn, seek-stop, seek-end, part-body, part-scannable}
+use Rattle.tables.specs.declared.Found.the-variants.{At, Nothing}
 use Rattle.tables.specs.Faults.{lowest}
-use Rattle.tables.specs.Rows.{Entry, ruleCount, ruleHead, ruleStart, ruleSize, ruleBody, headsRule, definitionOf}
-use Rattle.tables.specs.Satisfied.{RulesScannable}
+use Rattle.tables.specs.Rows.{ruleCount, ruleHead, ruleStart, ruleSize, ruleBody, headsRule, definitionOf}
+use Rattle.tables.specs.Scans.{RulesScannable}
 use Rattle.tables.specs.Marks.{isMarked}
-use Rattle.tables.proofs.Faults.{lowest-none}
+use Rattle.tables.proofs.Faults.{lowest-none, Searched, search-turn, search-stop}
 use Rattle.checker.specs.Check.{badLevel, unblocked}
 use Rattle.checker.specs.Marks.{Readable, Ranged, Reached}
 
@@ -62,9 +62,6 @@ block-cases true (suc zero) value below level small high low = rw (strictly belo
 block-cases o (suc (suc m)) value below level small high low = absurd (omega arith)
 
 module _ {d : Definition} {values levels : List ℕ} (r : Ranged d values levels) where
-  pub reached : (atom : ℕ) → atom < length values → Reached atom values levels
-  reached atom l = record { value = l; level = omega arith }
-
   open-low : (atom : ℕ) → atom < length values → isDefined d atom ≡ false → getD levels atom 0 ≡ 0
   unfolding levelAt
   open-low atom l o = r .openLevel atom (rw (open-not-defined d atom (omega arith), o))
@@ -111,19 +108,6 @@ module _ {d : Definition} {defined values levels : List ℕ} (r : Readable d def
 
 -- ── Rows ──
 
-not-any : {A : Type 0} (p : A → Bool) (xs : List A) → not (any p xs) ≡ all (λ x. not (p x)) xs
-unfolding any all
-not-any p [] = refl
-not-any p (x ∷ xs) = step (p x) (not-any p xs)
-  where
-    step : (b : Bool) → not (any p xs) ≡ all (λ y. not (p y)) xs → not (b || any p xs) ≡ (not b && all (λ y. not (p y)) xs)
-    step true e = refl
-    step false e = e
-
--- The literal does not block.
-abbrev pub passes : Definition → List ℕ → List ℕ → ℕ → ℕ → Bool
-passes d values levels atom = λ literal. not (blocks d values levels atom literal)
-
 -- The part `&literals[start..]`.
 abbrev pub part : List ℕ → ℕ → List ℕ
 part literals start = take (length literals - start) (drop start literals)
@@ -137,93 +121,98 @@ head-defined {rules} s row l =
     both _ _ (lt-ltb _ _ (s .heads row l))
     (anyBelow-make (ruleCount rules) (λ k. eqb (ruleHead rules k) (ruleHead rules row)) row l (eq-eqb (ruleHead rules row) _ refl))
 
-module _ {rules literals : List ℕ} {atoms : ℕ} (s : RulesScannable rules literals atoms) (row : ℕ) (l : row < length rules / 3) where
+module _ {rules literals : List ℕ} {atoms : ℕ} (s : RulesScannable rules literals atoms) {row : ℕ} (l : row < ruleCount rules) where
   -- so that its level is 1 or more.
   pub head-high :
-      {values levels : List ℕ} {head : ℕ} → Ranged (definitionOf atoms rules literals) values levels → Entry rules (row * 3) head →
-      1 ≤ getD levels head 0
-  unfolding levelAt ruleCount ruleHead
-  head-high r h = rw (h .is) (r .definedLevel _ (head-defined s row l))
+      {values levels : List ℕ} {head : ℕ} → Ranged (definitionOf atoms rules literals) values levels → head ≡ ruleHead rules row → 1 ≤ getD levels head 0
+  unfolding levelAt
+  head-high r h = rw h (r .definedLevel _ (head-defined s row l))
 
-  pub row-head : {head : ℕ} → Entry rules (row * 3) head → head < atoms
-  unfolding ruleCount ruleHead
-  row-head h = rw (h .is) (s .heads row l)
+  pub row-head : {head : ℕ} → head ≡ ruleHead rules row → head < atoms
+  row-head h = rw h (s .heads row l)
 
-  row-body : {start size : ℕ} → Entry rules (row * 3 + 1) start → Entry rules (row * 3 + 2) size → Scannable literals start size atoms
-  unfolding ruleCount ruleStart ruleSize
-  row-body a b = record { within = rw (a .is, b .is) (s .within row l); known = s .known }
+  pub row-body : {start size : ℕ} → start ≡ ruleStart rules row → size ≡ ruleSize rules row → Scannable literals start size atoms
+  row-body a b = record { within = rw (a, b) (s .within row l); known = s .known }
 
-module _ (d : Definition) (rules literals values levels : List ℕ) (row : ℕ) {head : ℕ} (h : Entry rules (row * 3) head) (l : head < length values) where
-  unblocked-read :
-      unblocked d rules literals values levels row ≡
-      (eqb (getD values head 0) 0 && not (any (blocks d values levels head) (ruleBody rules literals row)))
-  unfolding unblocked valueAt ruleHead
-  unblocked-read = rw (← h .is, false-test, getD-default values head 2 0 l)
+-- The search has come to `row`: no row before it is unblocked.
+abbrev pub Passed : List ℕ → List ℕ → List ℕ → List ℕ → ℕ → Type 0
+Passed rules literals values levels row =
+    Searched (unblocked (definitionOf (length values) rules literals) rules literals values levels) (ruleCount rules) row
 
-  -- A row of an atom that is not false is passed over.
-  pub row-not-false : (getD values head 0 ≡ 0 → ⊥) → unblocked d rules literals values levels row ≡ false
-  row-not-false other = unblocked-read ∙ rw (ne-eqb (getD values head 0) 0 other)
-
-  row-false :
-      {start size : ℕ} → Entry rules (row * 3 + 1) start → Entry rules (row * 3 + 2) size → getD values head 0 ≡ 0 →
-      unblocked d rules literals values levels row ≡ all (passes d values levels head) (bodyAt (part literals start) 0 size)
-  unfolding ruleBody ruleStart ruleSize
-  row-false {start} {size} a b is =
-      unblocked-read ∙ rw (eq-eqb (getD values head 0) 0 is, ← a .is, ← b .is, part-body literals start size, not-any)
-
--- The scan of a row of a false atom has come to i: the row is unblocked if no literal blocks, and none before i does.
-pub record RowScan (d : Definition) (rules literals values levels : List ℕ) (row head start size i : ℕ) : Type 0 where
-  pub read : Ranged d values levels
+-- A row of a false atom, to which the search has come: it is unblocked if no literal of its body blocks.
+pub record FalseRow (rules literals values levels : List ℕ) (row head start size : ℕ) : Type 0 where
+  pub passed : Passed rules literals values levels row
+  pub within : row < ruleCount rules
+  pub read : Ranged (definitionOf (length values) rules literals) values levels
   pub high : 1 ≤ getD levels head 0
   pub body : Scannable literals start size (length values)
-  pub answer : unblocked d rules literals values levels row ≡ all (passes d values levels head) (bodyAt (part literals start) 0 size)
-  pub scanned : Scanned (passes d values levels head) (part literals start) size i
+  pub answer :
+      unblocked (definitionOf (length values) rules literals) rules literals values levels row ≡
+      not (any (blocks (definitionOf (length values) rules literals) values levels head) (bodyAt (part literals start) 0 size))
 
-pub row-start :
-    {rules literals values levels : List ℕ} {row head start size : ℕ} →
-    RulesScannable rules literals (length values) → Ranged (definitionOf (length values) rules literals) values levels →
-    row < length rules / 3 → Entry rules (row * 3) head → getD values head 0 ≡ 0 → Entry rules (row * 3 + 1) start → Entry rules (row * 3 + 2) size →
-    RowScan (definitionOf (length values) rules literals) rules literals values levels row head start size 0
-row-start {row = row} s r l h is a b =
-    record {
-      read = r;
-      high = head-high s row l r h;
-      body = row-body s row l a b;
-      answer = row-false _ _ _ _ _ row h (row-head s row l h) a b is;
-      scanned = scan-start;
-    }
+-- The scan of its body has come to i: no literal before i blocks.
+pub record RowScan (rules literals values levels : List ℕ) (row head start size i : ℕ) : Type 0 where
+  pub at : FalseRow rules literals values levels row head start size
+  pub sought : Sought (blocks (definitionOf (length values) rules literals) values levels head) (part literals start) size i
 
 module _
-    {d : Definition} {rules literals values levels : List ℕ} {row head start size i : ℕ}
-    (now : RowScan d rules literals values levels row head start size i)
+    {rules literals values levels : List ℕ} {row head : ℕ}
+    (s : RulesScannable rules literals (length values)) (r : Ranged (definitionOf (length values) rules literals) values levels)
+    (l : row < ruleCount rules) (h : head ≡ ruleHead rules row) (passed : Passed rules literals values levels row)
   where
-    in-part : i < size → i < length (part literals start)
-    in-part l = omega (arith, part-scannable (now .body) .within)
+    row-read :
+        unblocked (definitionOf (length values) rules literals) rules literals values levels row ≡
+        (eqb (getD values head 0) 0 && not (any (blocks (definitionOf (length values) rules literals) values levels head) (ruleBody rules literals row)))
+    unfolding unblocked valueAt
+    row-read = rw (← h, false-test, getD-default values head 2 0 (row-head s l h))
+
+    -- A row of an atom that is not false is passed over.
+    pub row-passed : (getD values head 0 ≡ 0 → ⊥) → Passed rules literals values levels (row + 1)
+    row-passed other = search-turn l (row-read ∙ rw (ne-eqb (getD values head 0) 0 other)) passed
+
+    pub row-start :
+        {start size : ℕ} → getD values head 0 ≡ 0 → start ≡ ruleStart rules row → size ≡ ruleSize rules row →
+        RowScan rules literals values levels row head start size 0
+    unfolding ruleBody
+    row-start {start} {size} is a b =
+        record {
+          at = record {
+            passed = passed;
+            within = l;
+            read = r;
+            high = head-high s l r h;
+            body = row-body s l a b;
+            answer = row-read ∙ rw (eq-eqb (getD values head 0) 0 is, ← a, ← b, part-body literals start size);
+          };
+          sought = seek-start;
+        }
+
+module _
+    {rules literals values levels : List ℕ} {row head start size i : ℕ} (now : RowScan rules literals values levels row head start size i)
+    (l : i < size)
+  where
+    in-part : i < length (part literals start)
+    in-part = omega (arith, part-scannable (now .at .body) .within)
 
     -- The next literal lies in the part, and its atom has a value and a level.
     pub row-reached :
-        i < size →
         (i < length (part literals start)) × Reached (atomOf (getD (part literals start) i 0)) values levels × (1 ≤ getD levels head 0)
-    row-reached l = (in-part l, reached (now .read) _ (part-scannable (now .body) .known i (in-part l)), now .high)
+    row-reached =
+        let known = part-scannable (now .at .body) .known i in-part in
+        (in-part, record { value = known; level = omega arith }, now .at .high)
 
-    -- What the code makes of the next literal: one that does not block is passed, one that blocks decides the row.
-    pub row-turn :
-        {answer : Bool} → i < size → answer ≡ blocks d values levels head (getD (part literals start) i 0) → answer ≡ false →
-        RowScan d rules literals values levels row head start size (i + 1)
-    row-turn l e f =
-        record {
-          read = now .read;
-          high = now .high;
-          body = now .body;
-          answer = now .answer;
-          scanned = scan-turn l (in-part l) (ap not (sym e ∙ f)) (now .scanned);
-        }
+    -- What the code makes of the next literal: one that does not block is passed, and with one that blocks the row is.
+    module _
+        {answer : Bool} (e : answer ≡ blocks (definitionOf (length values) rules literals) values levels head (getD (part literals start) i 0))
+      where
+        pub row-turn : answer ≡ false → RowScan rules literals values levels row head start size (i + 1)
+        row-turn f = record { at = now .at; sought = seek-turn l in-part (sym e ∙ f) (now .sought) }
 
-    pub row-stop :
-        {answer : Bool} → i < size → answer ≡ blocks d values levels head (getD (part literals start) i 0) → answer ≡ true →
-        unblocked d rules literals values levels row ≡ false
-    row-stop l e t = now .answer ∙ scan-stop l (in-part l) (ap not (sym e ∙ t)) (now .scanned)
+        pub row-stop : answer ≡ true → Passed rules literals values levels (row + 1)
+        row-stop t = search-turn (now .at .within) (now .at .answer ∙ ap not (seek-stop l in-part (sym e ∙ t) (now .sought))) (now .at .passed)
 
-    -- At the end of its body the row is unblocked.
-    pub row-end : size ≤ i → unblocked d rules literals values levels row ≡ true
-    row-end l = now .answer ∙ scan-end l (now .scanned)
+-- At the end of its body the row is unblocked, and found.
+pub row-end :
+    {rules literals values levels : List ℕ} {row head start size i : ℕ} → RowScan rules literals values levels row head start size i → size ≤ i →
+    At row ≡ lowest (ruleCount rules) (unblocked (definitionOf (length values) rules literals) rules literals values levels)
+row-end now h = search-stop (now .at .within) (now .at .answer ∙ ap not (seek-end h (now .sought))) (now .at .passed)

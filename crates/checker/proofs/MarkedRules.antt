@@ -1,6 +1,6 @@
 -- What the marks that the check makes tell: who is defined, how many are, and which true atoms a rule supports.
 -- Assumes nothing.
-use Prim.Native.Nat.{ℕ, _≤_, _<_}
+use Prim.Native.Nat.{ℕ, _≤_}
 use mathlib.Core.Path.{_≡_, refl, sym, _∙_}
 use mathlib.Core.Bool.{Bool, true, false, not, _&&_, and-false}
 use mathlib.Core.List.{List, List·Memᴰ}
@@ -9,12 +9,11 @@ use lib.ListN.{length, replicate, length-replicate}
 use Rattle.wellfounded.specs.Lists.{count}
 use Rattle.wellfounded.specs.Literals.{isTrue, valueAt}
 use Rattle.wellfounded.specs.Definitions.{isDefined, definedCount}
-use Rattle.wellfounded.specs.Levels.{isSupported}
 use Rattle.wellfounded.proofs.Lists.{count-same}
 use Rattle.tables.specs.Faults.{lowest, Test, Absent}
 use Rattle.tables.specs.Rows.{ruleCount, headsRule, definitionOf}
 use Rattle.tables.specs.Sound.{Tables, tableTests}
-use Rattle.tables.specs.Satisfied.{ClausesScannable, LoadsScannable}
+use Rattle.tables.specs.Scans.{ClausesScannable, LoadsScannable}
 use Rattle.tables.specs.Marks.{isMarked, markWhere}
 use Rattle.tables.proofs.Faults.{lowest-same}
 use Rattle.tables.proofs.SoundTables.{sound-sizes, sound-rules, sound-clauses, sound-loads}
@@ -22,6 +21,11 @@ use Rattle.tables.proofs.MarkLaws.{fresh-marks, heads-tell, mark-length}
 use Rattle.checker.specs.Check.{unsupported}
 use Rattle.checker.specs.Marks.{Readable, Levelled, supportedBy}
 use Rattle.checker.proofs.Supported.{supported-by-all}
+
+-- A test that is reached only behind another may rely on it.
+relying : (a b x y : Bool) → (b ≡ true → x ≡ y) → (a && b && not x) ≡ (a && b && not y)
+relying a true x y alike = rw (alike refl)
+relying a false x y alike = rw and-false
 
 module _ (rules literals values levels : List ℕ) (few : length values ≤ 1024) where
   -- The marks of the heads tell who is defined,
@@ -53,21 +57,9 @@ module _ (rules literals values levels : List ℕ) (few : length values ≤ 1024
   unfolding unsupported definitionOf
   support-same defined supported readable is =
       lowest-same _ _ (length values)
-      (λ atom l. rw (readable .tells atom l, marked atom (omega arith)) (agree atom (isTrue (valueAt values atom)) refl))
-    where
-      marked :
-          (atom : ℕ) → atom < 1024 →
-          isMarked supported atom ≡ supportedBy (definitionOf (length values) rules literals) rules literals values levels (ruleCount rules) atom
-      marked atom l = rw is (fresh-marks 1024 _ atom l)
-
-      agree :
-          (atom : ℕ) (v : Bool) → isTrue (valueAt values atom) ≡ v →
-          (isDefined (definitionOf (length values) rules literals) atom && isTrue (valueAt values atom)
-          && not (supportedBy (definitionOf (length values) rules literals) rules literals values levels (ruleCount rules) atom))
-          ≡ (isDefined (definitionOf (length values) rules literals) atom && isTrue (valueAt values atom)
-          && not (isSupported (definitionOf (length values) rules literals) values levels atom))
-      agree atom true e = rw (supported-by-all (length values) rules literals values levels atom e)
-      agree atom false e = rw (e, and-false) refl
+      (λ atom l.
+      rw (readable .tells atom l, is, fresh-marks 1024 _ atom (omega arith))
+      (relying (isDefined (definitionOf (length values) rules literals) atom) _ _ _ (supported-by-all (length values) rules literals values levels atom)))
 
 -- What the claim's faults may rely on where the tables have no fault and the slices are N long.
 pub claim-ready :

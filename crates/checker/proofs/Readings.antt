@@ -3,7 +3,7 @@
 use Prim.Native.Nat.{ℕ, zero, suc, _≤_, _<_}
 use mathlib.Core.Path.{_≡_, refl, ap}
 use mathlib.Core.Logic.{_↔_}
-use mathlib.Core.Bool.{true, false, not, _&&_, false≢true}
+use mathlib.Core.Bool.{true, not, _&&_, false≢true}
 use mathlib.Core.List.{List, List·Memᴰ}
 use native.Mathlib.Omega.{arith}
 use borrow.Author.Tests.{not-true}
@@ -16,10 +16,11 @@ use Rattle.wellfounded.proofs.Tests.{clash, not-both, both, first, second}
 use Rattle.wellfounded.proofs.Lists.{any-use, any-make}
 use Rattle.wellfounded.proofs.Levels.{levelInRange-open, levelInRange-defined, levelInRange-make, isSupported-use, isSupported-make, blocks-use, blocks-make}
 use Rattle.tables.specs.Rows.{ruleHead, ruleBody, clauseAt}
-use Rattle.tables.specs.Loads.{loadSum, loadAt}
-use Rattle.tables.specs.Satisfied.{failingClause, failingLoad}
-use Rattle.tables.proofs.Satisfied.{clause-holds-use, clause-holds-make}
-use Rattle.tables.proofs.LoadLaws.{load-holds-use, load-holds-make}
+use Rattle.satisfaction.specs.Satisfied.{loadSum}
+use Rattle.tables.specs.Loads.{loadAt}
+use Rattle.satisfaction.specs.Satisfied.{failingClause, failingLoad}
+use Rattle.satisfaction.proofs.Satisfied.{clause-holds-use, clause-holds-make}
+use Rattle.satisfaction.proofs.LoadLaws.{load-holds-use, load-holds-make}
 use Rattle.tables.specs.Marks.{notHeld}
 use Rattle.checker.specs.Check.{badLevel, unsupported, unblocked}
 

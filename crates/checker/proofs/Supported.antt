@@ -1,7 +1,7 @@
 -- Laws of the rules that support true atoms: the scan of all rows.
 -- Assumes nothing.
 use Prim.Native.Nat.{ℕ, _<_}
-use mathlib.Core.Path.{_≡_, refl, sym, ap, subst, _∙_}
+use mathlib.Core.Path.{_≡_, refl, sym, ap, _∙_}
 use mathlib.Core.Bool.{Bool, true, not, _&&_}
 use mathlib.Core.List.{List}
 use lib.Dec.{eqb}
@@ -58,7 +58,7 @@ supported-by-all atoms rules literals values levels atom h =
     let row = tabulate-member (ruleCount rules) (ruleAt rules literals) (found .1) in
     anyBelow-make (ruleCount rules) _ (row .0) (row .1)
     (row-takes _ rules literals values levels atom (row .0) h (ap (λ (r : Rule). r .head) (sym (row .2)) ∙ found .2)
-    (subst (λ (r : Rule). all (supports (definitionOf atoms rules literals) values levels atom) (r .body) ≡ true) (row .2) (found .3))))
+    (rw (row .2) at (found .3))))
 
 -- A defined true atom without support, as the code tests it.
 pub unsupported-at :

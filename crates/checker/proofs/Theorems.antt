@@ -9,10 +9,9 @@ use lib.ListN.{length}
 use Rattle.wellfounded.specs.Stages.{wellFoundedModel, TwoValued, SameSetting}
 use Rattle.wellfounded.proofs.Theorems.{sound, unique}
 use Rattle.tables.specs.declared.Fault.{Fault}
-use Rattle.tables.specs.declared.Verdict.the-variants.{Refused}
 use Rattle.tables.specs.Faults.{Test, Absent, numberOf, positionOf, faultNumber, RefusedBy}
 use Rattle.tables.specs.Sound.{Tables, bookOf, tableTests, Sound}
-use Rattle.tables.specs.Satisfied.{Satisfies}
+use Rattle.satisfaction.specs.Satisfied.{Satisfies}
 use Rattle.tables.proofs.Faults.{accepted-absent, absent-accepted, absent-more, first-append, refused-by, by-refused}
 use Rattle.tables.proofs.Numbers.{zero-accepted, number-refused}
 use Rattle.checker.specs.Check.{checkTests, checkOf, RightClaim}

@@ -14,7 +14,7 @@ use Rattle.tables.specs.Faults.{Test, firstFault}
 use Rattle.tables.specs.Rows.{ruleCount, ruleHead, ruleBody}
 use Rattle.tables.specs.Sound.{Tables, bookOf, tableTests, sliceTest}
 use Rattle.tables.specs.Marks.{notHeld}
-use Rattle.tables.specs.Satisfied.{Satisfies, satisfactionTests}
+use Rattle.satisfaction.specs.Satisfied.{Satisfies, satisfactionTests}
 
 -- 21: a value that is not 0 or 1.
 unfoldable pub valueTest : ℕ → List ℕ → Test

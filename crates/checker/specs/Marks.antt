@@ -11,7 +11,7 @@ use Rattle.wellfounded.specs.Definitions.{Definition, isDefined, isOpen}
 use Rattle.wellfounded.specs.Levels.{levelAt, supports}
 use Rattle.tables.specs.Rows.{ruleHead, ruleBody}
 use Rattle.tables.specs.Limits.{maxAtoms}
-use Rattle.tables.specs.Satisfied.{RulesScannable}
+use Rattle.tables.specs.Scans.{RulesScannable}
 use Rattle.tables.specs.Marks.{isMarked}
 
 -- What the scans of a claim read: marks that tell the defined atoms, and a value and a level for each atom.

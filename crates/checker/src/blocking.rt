@@ -7,12 +7,14 @@ ghost use Rattle.wellfounded.specs.Definitions.{Definition};
 ghost use Rattle.wellfounded.specs.Levels.{levelAt, blocks};
 ghost use Rattle.tables.specs.Faults.{lowest};
 ghost use Rattle.tables.specs.Rows.{ruleCount, definitionOf};
-ghost use Rattle.tables.specs.Satisfied.{RulesScannable};
+ghost use Rattle.tables.specs.Scans.{RulesScannable};
 ghost use Rattle.checker.specs.Check.{unblocked};
 ghost use Rattle.checker.specs.Marks.{Ranged, Reached};
 use tables::Found;
-use tables::rows::RULE_WIDTH;
-use tables::rows::entry;
+use tables::rows::rule_count;
+use tables::rows::rule_head;
+use tables::rows::rule_size;
+use tables::rows::rule_start;
 use wellfounded::atom_of;
 
 // Whether the literal at place `i` of a body blocks a rule for a false atom at the level: it is false, and its atom is at a
@@ -38,18 +40,18 @@ pub fn unblocked_row(rules: &[u16], literals: &[u16], values: &[u8], levels: &[u
         (unblocked (definitionOf (length (now (values .entry))) (now (rules .entry)) (now (literals .entry)))
         (now (rules .entry)) (now (literals .entry)) (now (values .entry)) (now (levels .entry))) ⌝ }
 {
-    let rows = rules.len() / RULE_WIDTH;
+    let rows = rule_count(rules);
     let mut next = 0;
     let mut found = Found::Nothing;
     'rows: while next < rows {
         let row = next;
         next += 1;
-        let head = entry(rules, row * RULE_WIDTH);
+        let head = rule_head(rules, row);
         if values[head] != 0 {
             continue 'rows;
         }
-        let start = entry(rules, row * RULE_WIDTH + 1);
-        let size = entry(rules, row * RULE_WIDTH + 2);
+        let start = rule_start(rules, row);
+        let size = rule_size(rules, row);
         let level = levels[head];
         let mut i = 0;
         while i < size {

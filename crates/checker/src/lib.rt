@@ -6,7 +6,7 @@ ghost use lib.ListN.{length};
 ghost use Rattle.tables.specs.Faults.{firstFault};
 ghost use Rattle.tables.specs.Rows.{definitionOf};
 ghost use Rattle.tables.specs.Sound.{lent};
-ghost use Rattle.tables.specs.Satisfied.{RulesScannable, ClausesScannable, LoadsScannable};
+ghost use Rattle.tables.specs.Scans.{RulesScannable, ClausesScannable, LoadsScannable};
 ghost use Rattle.checker.specs.Check.{supportTest, blockingTest, levelTests, claimTests, checkOf};
 ghost use Rattle.checker.specs.Marks.{Readable, Ranged, Levelled};
 
@@ -16,6 +16,7 @@ mod support;
 
 use blocking::unblocked_row;
 use levels::bad_level;
+use satisfaction::satisfaction_fault;
 use support::mark_supported;
 use support::unsupported_atom;
 use tables::Fault;
@@ -23,7 +24,6 @@ use tables::Found;
 use tables::Verdict;
 use tables::marks::count_marked;
 use tables::marks::mark_heads;
-use tables::satisfaction::satisfaction_fault;
 use tables::sizes::table_fault;
 use tables::values::not_held_atom;
 

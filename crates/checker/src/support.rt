@@ -9,12 +9,14 @@ ghost use Rattle.wellfounded.specs.Definitions.{Definition};
 ghost use Rattle.wellfounded.specs.Levels.{levelAt, supports};
 ghost use Rattle.tables.specs.Faults.{lowest};
 ghost use Rattle.tables.specs.Rows.{ruleCount, ruleHead, ruleBody, definitionOf};
-ghost use Rattle.tables.specs.Satisfied.{RulesScannable};
+ghost use Rattle.tables.specs.Scans.{RulesScannable};
 ghost use Rattle.tables.specs.Marks.{isMarked, markWhere};
 ghost use Rattle.checker.specs.Marks.{Ranged, Reached, supportedBy};
 use tables::Found;
-use tables::rows::RULE_WIDTH;
-use tables::rows::entry;
+use tables::rows::rule_count;
+use tables::rows::rule_head;
+use tables::rows::rule_size;
+use tables::rows::rule_start;
 use wellfounded::atom_of;
 use wellfounded::literal_true;
 
@@ -78,12 +80,12 @@ fn row_supports(rules: &[u16], row: usize, literals: &[u16], values: &[u8], leve
         && all (supports (definitionOf (length (now (values .entry))) (now (rules .entry)) (now (literals .entry))) (now (values .entry))
         (now (levels .entry)) (ruleHead (now (rules .entry)) row)) (ruleBody (now (rules .entry)) (now (literals .entry)) row)) ⌝ }
 {
-    let head = entry(rules, row * RULE_WIDTH);
+    let head = rule_head(rules, row);
     if values[head] != 1 {
         return false;
     }
-    let start = entry(rules, row * RULE_WIDTH + 1);
-    let size = entry(rules, row * RULE_WIDTH + 2);
+    let start = rule_start(rules, row);
+    let size = rule_size(rules, row);
     body_supports(literals, start, size, levels[head], values, levels)
 }
 
@@ -102,10 +104,10 @@ pub fn mark_supported(
         (now (rules .entry)) (now (literals .entry)) (now (values .entry)) (now (levels .entry)) (ruleCount (now (rules .entry))))
         (now (supported .entry)) ⌝ }
 {
-    let rows = rules.len() / RULE_WIDTH;
+    let rows = rule_count(rules);
     let mut row = 0;
     while row < rows {
-        let head = entry(rules, row * RULE_WIDTH);
+        let head = rule_head(rules, row);
         if supported[head] != 1 && row_supports(rules, row, literals, values, levels) {
             supported[head] = 1;
         }

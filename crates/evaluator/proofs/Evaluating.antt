@@ -22,13 +22,12 @@ use Rattle.tables.specs.Faults.{lowest, Test, Absent, firstFault}
 use Rattle.tables.specs.Rows.{headsRule, definitionOf}
 use Rattle.tables.specs.Marks.{isMarked, markWhere}
 use Rattle.tables.specs.Sound.{Tables, lent, bookOf, tableTests, sliceTest}
-use Rattle.tables.specs.Satisfied.{satisfactionTests}
+use Rattle.satisfaction.specs.Satisfied.{satisfactionTests}
 use Rattle.tables.proofs.Faults.{lowest-same, found-refuses, nothing-leaves, first-fails, once-fails, first-append, first-append-refused, accepted-absent}
 use Rattle.tables.proofs.SoundTables.{sound-sizes, sound-rules, sound-clauses, sound-loads, slice-leaves}
 use Rattle.tables.proofs.MarkLaws.{heads-tell, mark-length}
+use Rattle.rounds.specs.Rounds.{badStart, Started, RoundsDone}
 use Rattle.evaluator.specs.Evaluate.{badSetting, settingTest, undecidedTest, modelTests, refusalTests, Evaluation, evaluated, stoppedOr, evaluateOf, Answers, Lent}
-use Rattle.evaluator.specs.Rounds.{badStart, Started, RoundsDone}
-use Rattle.evaluator.proofs.NextStage.{bad-start}
 
 module _ (t : Tables) (setting values levels work : List ℕ) (long : length setting ≡ t .atoms) (sound : Lent t values levels work) (defined : List ℕ)
     (marks : defined ≡ markWhere (headsRule (t .rules)) (replicate 1024 0)) where
@@ -37,9 +36,8 @@ module _ (t : Tables) (setting values levels work : List ℕ) (long : length set
 
   -- The search of the setting looks for the fault of the definition.
   pub setting-same : lowest (length setting) (badStart defined setting) ≡ lowest (t .atoms) (badSetting (bookOf t) setting)
-  unfolding bookOf
-  setting-same =
-      rw long (lowest-same _ _ (t .atoms) (bad-start (t .atoms) (t .rules) (t .literals) setting defined tells))
+  unfolding bookOf badStart badSetting
+  setting-same = rw long (lowest-same _ _ (t .atoms) (λ atom l. rw (tells atom l)))
 
   pub stages-ready : Started (t .rules) (t .literals) defined setting values levels work
   stages-ready =
@@ -52,6 +50,13 @@ module _ (t : Tables) (setting values levels work : List ℕ) (long : length set
         levelsLong = sound .levelsLong ∙ sym long;
         workLong = sound .workLong ∙ sym long;
       }
+
+-- The model has a value for each atom.
+pub done-long :
+    {rules literals setting values levels work : List ℕ} {rounds : ℕ} → RoundsDone rules literals setting values levels work rounds →
+    length values ≡ length setting
+unfolding definitionOf
+done-long {setting = setting} done = ap length (done .model) ∙ model-length _ setting
 
 -- A refused setting stops the evaluation with nothing written;
 pub stopped-answer :
@@ -71,7 +76,7 @@ pub made-answer :
     Answers (stoppedOr (firstFault (settingTest (bookOf t) setting ∷ [])) values levels work (evaluated t setting)) verdict rounds values′ levels′ work′
 unfolding settingTest stoppedOr evaluated modelTests bookOf definitionOf firstFault
 made-answer t setting values levels work found is none verdict rounds values′ levels′ work′ long done fault =
-    let valued : length values′ ≡ t .atoms = ap length (done .model) ∙ model-length _ setting ∙ long in
+    let valued = done-long done ∙ long in
     rw (nothing-leaves (settingTest (bookOf t) setting ∷ []) (settingTest (bookOf t) setting) [] found refl is none)
     (record {
       verdictIs = rw valued at fault ∙ ap (λ (v : List ℕ). firstFault (modelTests t v)) (rw long at (done .model));

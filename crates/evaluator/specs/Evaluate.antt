@@ -15,7 +15,8 @@ use Rattle.tables.specs.Faults.{Test, firstFault}
 use Rattle.tables.specs.Sound.{Tables, bookOf, tableTests, sliceTest}
 use Rattle.tables.specs.Marks.{notHeld}
 use Rattle.tables.specs.Limits.{maxAtoms}
-use Rattle.tables.specs.Satisfied.{satisfactionTests, RulesScannable, ClausesScannable, LoadsScannable}
+use Rattle.satisfaction.specs.Satisfied.{satisfactionTests}
+use Rattle.tables.specs.Scans.{RulesScannable, ClausesScannable, LoadsScannable}
 
 -- 21: an open atom's value that is not 0 or 1, or a defined atom's that is not 0.
 unfoldable pub badSetting : Definition → List ℕ → ℕ → Bool

@@ -1,4 +1,2 @@
--- The evaluation of a book at given open values, and the steps of a round.
+-- The evaluation of a book at given open values.
 pub mod Evaluate
-pub mod Founding
-pub mod Rounds

@@ -6,21 +6,16 @@ ghost use lib.ListN.{length};
 ghost use Rattle.wellfounded.specs.Lists.{all};
 ghost use Rattle.tables.specs.Faults.{firstFault};
 ghost use Rattle.tables.specs.Sound.{lent, bookOf};
-ghost use Rattle.tables.specs.Satisfied.{ClausesScannable, LoadsScannable, clauseTest, loadTest};
+ghost use Rattle.tables.specs.Scans.{ClausesScannable, LoadsScannable};
+ghost use Rattle.satisfaction.specs.Satisfied.{clauseTest, loadTest};
 ghost use Rattle.evaluator.specs.Evaluate.{undecidedTest, settingTest, evaluated, stoppedOr, evaluateOf, Answers, Lent};
-
-mod founding;
-mod rounds;
-mod setting;
-mod stages;
-
-use setting::bad_setting;
-use stages::evaluate_stages;
+use rounds::bad_setting;
+use rounds::evaluate_stages;
+use satisfaction::satisfaction_fault;
 use tables::Fault;
 use tables::Found;
 use tables::Verdict;
 use tables::marks::mark_heads;
-use tables::satisfaction::satisfaction_fault;
 use tables::sizes::table_fault;
 use tables::values::not_held_atom;
 

@@ -14,7 +14,7 @@ use Rattle.tables.specs.Rows.{ruleCount, ruleHead, ruleStart, ruleSize, ruleBod
 use Rattle.tables.specs.Rows.{clauseCount, clauseStart, clauseSize, clauseAt, clausesOf}
 use Rattle.tables.specs.Loads.{Term, Load, loadCount, indexOf, loadEntry, loadLow, loadHigh, loadStart, loadSize, termAt, termsAt, loadAt, loadsOf}
 use Rattle.format.specs.Forms.{LiteralText, TermText, Form, atomsForm, ruleForm, clauseForm, loadForm, openForm, claimForm}
-use Rattle.format.specs.Items.{literalCode}
+use Rattle.items.specs.Items.{literalCode}
 use Rattle.judging.specs.declared.reached.Reached.{Reached}
 use Rattle.judging.specs.States.{start, added, kindIn, sizeIn, partsIn, after}
 use Rattle.forms.specs.Entries.{entriesOf, joined, entriesFrom, bookEntries, literalsIn, termsIn, ruleRow, clauseRow, loadRow}

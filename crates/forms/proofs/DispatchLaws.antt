@@ -16,10 +16,10 @@ use Rattle.format.specs.Forms.{space, closing, lineEnd, render}
 use Rattle.format.specs.Words.{wordAt, wordOf, kindAt}
 use Rattle.format.specs.Parse.{Reading, got, refused, Holds, andThen, skip, readNumber, readSigned, readLiteral, readTerm, readPair, parts}
 use Rattle.format.specs.Parse.{readAtoms, readRule, readClause, readLoad, readOpen, readClaim, readAs, readForm, readLine}
-use Rattle.format.specs.Items.{literalCode}
+use Rattle.items.specs.Items.{literalCode}
 use Rattle.format.proofs.Readings.{holds-use}
 use Rattle.format.proofs.Lines.{kind-begins, form-written}
-use Rattle.format.proofs.ItemLaws.{byte-got, byte-none}
+use Rattle.items.proofs.ItemLaws.{byte-got, byte-none}
 use Rattle.judging.specs.declared.reached.Reached.{Reached}
 use Rattle.judging.specs.declared.reached.Shape.{Shape}
 use Rattle.judging.specs.Shapes.{shapeOf}

@@ -16,19 +16,19 @@ use Rattle.wellfounded.specs.Lists.{all}
 use Rattle.wellfounded.proofs.Tests.{first, second}
 use Rattle.tables.specs.Limits.{maxAtoms, maxBound}
 use Rattle.format.specs.declared.kinds.Kind.the-variants.{Atoms, Rule, Clause, Load, Claim}
-use Rattle.format.specs.declared.numbers.Number.the-variants.{Read, Refused}
-use Rattle.format.specs.declared.signed.Signed.the-variants.{Whole, Malformed}
+use Rattle.numerals.specs.declared.numbers.Number.the-variants.{Read, Refused}
+use Rattle.numerals.specs.declared.signed.Signed.the-variants.{Whole, Malformed}
 use Rattle.format.specs.Forms.{LiteralText, TermText, PairText, Form, atomsForm, ruleForm, clauseForm, loadForm, claimForm, space, closing, partsBytes}
 use Rattle.format.specs.Words.{wordAt}
 use Rattle.format.specs.Parse.{Reading, got, refused, andThen, skip, parts, readNumber, readSigned, readLiteral, readTerm, readPair}
 use Rattle.format.specs.Parse.{readAtoms, readRule, readClause, readLoad, readClaim}
-use Rattle.format.specs.Offsets.{capped, clamped, numberAt, signedAt}
-use Rattle.format.proofs.CappedLaws.{capped-small, capped-below, capped-within, clamped-small, clamped-within}
+use Rattle.numerals.specs.Offsets.{capped, clamped, numberAt, signedAt}
+use Rattle.numerals.proofs.CappedLaws.{capped-small, capped-below, capped-within, clamped-small, clamped-within}
 use Rattle.format.proofs.Readings.{holds-use}
 use Rattle.format.proofs.Pieces.{Inverse}
 use Rattle.format.proofs.Parts.{parts-many, parts-written}
-use Rattle.format.proofs.ItemLaws.{GotAt, number-got, number-none-read, signed-got, signed-none, byte-got, byte-none}
-use Rattle.format.proofs.ItemChains.{offset-left, signed-fits}
+use Rattle.items.proofs.ItemLaws.{GotAt, number-got, number-none-read, signed-got, signed-none, byte-got, byte-none}
+use Rattle.items.proofs.ItemChains.{offset-left, signed-fits}
 use Rattle.judging.specs.declared.reached.Reached.{Reached}
 use Rattle.judging.specs.declared.reached.Shape.{Shape}
 use Rattle.judging.specs.States.{kindIn, sizeIn, partsIn}

@@ -16,7 +16,7 @@ use Rattle.wellfounded.proofs.Lists.{length-tabulate, getD-tabulate}
 use Rattle.format.specs.Forms.{Form, openForm}
 use Rattle.format.specs.Parse.{Reading, got, andThen, readNumber, parts, readOpen}
 use Rattle.format.specs.declared.kinds.Kind.the-variants.{Open}
-use Rattle.format.proofs.CappedLaws.{capped-small}
+use Rattle.numerals.proofs.CappedLaws.{capped-small}
 use Rattle.judging.specs.declared.reached.Reached.{Reached}
 use Rattle.judging.specs.States.{kindIn, sizeIn, partsIn}
 use Rattle.judging.specs.Judging.{atomBound, numbersWithin, mayFollow, between, inOrder}

@@ -4,7 +4,7 @@ use mathlib.Core.List.{List, [], _∷_, _++_, map}
 use Rattle.wellfounded.specs.Definitions.{Rule}
 use Rattle.tables.specs.Loads.{Term, Load}
 use Rattle.format.specs.Forms.{LiteralText, TermText, Form, atomsForm, ruleForm, clauseForm, loadForm, openForm, claimForm}
-use Rattle.format.specs.Items.{literalCode}
+use Rattle.items.specs.Items.{literalCode}
 
 -- A body is the literals as they are stored; so is a clause.
 unfoldable pub codesOf : List LiteralText → List ℕ

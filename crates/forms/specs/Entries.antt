@@ -8,7 +8,7 @@ use lib.ListN.{length, drop}
 use lib.Seq.{sets}
 use Rattle.wellfounded.specs.Lists.{any, tabulate}
 use Rattle.format.specs.Forms.{LiteralText, TermText, PairText, Form, atomsForm, ruleForm, clauseForm, loadForm, openForm, claimForm}
-use Rattle.format.specs.Items.{literalCode}
+use Rattle.items.specs.Items.{literalCode}
 use Rattle.judging.specs.declared.reached.Reached.{Reached}
 use Rattle.judging.specs.States.{start, after}
 

@@ -26,11 +26,11 @@ use Rattle.tables.specs.declared.Verdict.the-variants.{Accepted, Refused}
 use Rattle.tables.specs.Faults.{Test, Absent, firstFault, lowest, numberOf, faultNumber, RefusedBy}
 use Rattle.tables.specs.Rows.{definitionOf}
 use Rattle.tables.specs.Sound.{Tables, bookOf, tableTests, sliceTest, Sound}
-use Rattle.tables.specs.Satisfied.{clauseTest, loadTest, satisfactionTests}
+use Rattle.satisfaction.specs.Satisfied.{clauseTest, loadTest, satisfactionTests}
 use Rattle.tables.proofs.Faults.{refused-accepted, lowest-at, lowest-found, first-passes, first-fails, absent-none, absent-more, accepted-absent, absent-accepted, refused-by, first-append, first-append-refused}
 use Rattle.tables.proofs.Numbers.{zero-accepted}
 use Rattle.tables.proofs.SoundTables.{slices-absent, length-none, length-more}
-use Rattle.tables.proofs.Satisfied.{absent-satisfies, satisfies-absent}
+use Rattle.satisfaction.proofs.Satisfied.{absent-satisfies, satisfies-absent}
 use Rattle.checker.specs.Check.{checkOf}
 use Rattle.checker.proofs.Theorems.{accepted-exactly}
 use Rattle.tables.specs.Marks.{notHeld}

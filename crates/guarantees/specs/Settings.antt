@@ -11,7 +11,7 @@ use Rattle.wellfounded.specs.Stages.{closure, wellFoundedModel, stagesOf, TwoVa
 use Rattle.tables.specs.declared.Verdict.{Verdict}
 use Rattle.tables.specs.Faults.{Test, numberOf}
 use Rattle.tables.specs.Sound.{Tables, bookOf, Sound}
-use Rattle.tables.specs.Satisfied.{Satisfies}
+use Rattle.satisfaction.specs.Satisfied.{Satisfies}
 use Rattle.evaluator.specs.Evaluate.{refusalTests, Evaluation, evaluateOf, Answers}
 use Rattle.checker.specs.Check.{checkOf}
 

@@ -1,5 +1,4 @@
 // The two calls together: a claim is made, and the check looks at it with the same tables.
-ghost use lib.ListN.{length};
 ghost use Rattle.tables.specs.Sound.{lent};
 ghost use Rattle.guarantees.specs.Settings.{MadeAndChecked};
 use checker::check;

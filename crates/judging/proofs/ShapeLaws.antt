@@ -12,8 +12,8 @@ use Rattle.wellfounded.proofs.Tests.{first, second}
 use Rattle.tables.specs.Limits.{maxAtoms}
 use Rattle.tables.specs.declared.Fault.the-variants.{OutsideLimits, OutOfOrder, NoSpace}
 use Rattle.format.specs.Forms.{Form, atomsForm, ruleForm, clauseForm, loadForm, openForm, claimForm}
-use Rattle.format.specs.Offsets.{beyondLimits, capped}
-use Rattle.format.proofs.CappedLaws.{capped-small}
+use Rattle.numerals.specs.Offsets.{beyondLimits, capped}
+use Rattle.numerals.proofs.CappedLaws.{capped-small}
 use Rattle.judging.specs.declared.reached.Reached.{Reached}
 use Rattle.judging.specs.declared.reached.Space.{Space}
 use Rattle.judging.specs.declared.reached.Shape.{Shape}

@@ -7,7 +7,7 @@ use Rattle.tables.specs.declared.Fault.the-variants.{OutsideLimits, OutOfOrder,
 use Rattle.format.specs.declared.kinds.Kind.{Kind}
 use Rattle.format.specs.declared.kinds.Kind.the-variants.{Atoms, Rule, Clause, Load, Open, Claim, Unknown}
 use Rattle.format.specs.Forms.{Form, atomsForm, ruleForm, clauseForm, loadForm, openForm, claimForm}
-use Rattle.format.specs.Offsets.{capped}
+use Rattle.numerals.specs.Offsets.{capped}
 use Rattle.judging.specs.declared.reached.Reached.{Reached}
 use Rattle.judging.specs.declared.reached.Space.{Space}
 use Rattle.judging.specs.declared.reached.Shape.{Shape}

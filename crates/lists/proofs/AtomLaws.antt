@@ -14,12 +14,12 @@ use Rattle.wellfounded.proofs.Tests.{first, second}
 use Rattle.format.specs.Forms.{decimal, space}
 use Rattle.format.specs.Words.{wordAt}
 use Rattle.format.specs.Parse.{readNumber}
-use Rattle.format.specs.Offsets.{beyondLimits, capped, numberAt}
-use Rattle.format.specs.declared.numbers.Number.the-variants.{Read}
-use Rattle.format.proofs.CappedLaws.{capped-small, capped-below}
-use Rattle.format.proofs.SignedLaws.{number-limit}
+use Rattle.numerals.specs.Offsets.{beyondLimits, capped, numberAt}
+use Rattle.numerals.specs.declared.numbers.Number.the-variants.{Read}
+use Rattle.numerals.proofs.CappedLaws.{capped-small, capped-below}
+use Rattle.numerals.proofs.SignedLaws.{number-limit}
 use Rattle.format.proofs.Pieces.{number-inverse}
-use Rattle.format.proofs.ItemLaws.{GotAt, number-got, byte-got}
+use Rattle.items.proofs.ItemLaws.{GotAt, number-got, byte-got}
 use Rattle.judging.specs.Judging.{risesFrom}
 use Rattle.judging.specs.Shapes.{cappedRise}
 use Rattle.lists.specs.Lists.{stored, marked}

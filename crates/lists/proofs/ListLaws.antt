@@ -14,12 +14,12 @@ use Rattle.wellfounded.proofs.Tests.{first, second, same-test}
 use Rattle.format.specs.Forms.{LiteralText, space, closing}
 use Rattle.format.specs.Words.{wordAt}
 use Rattle.format.specs.Parse.{Reading, refused, parts}
-use Rattle.format.specs.Offsets.{capped}
-use Rattle.format.specs.Items.{codeOf, literalCode, cappedCode}
-use Rattle.format.proofs.CappedLaws.{capped-small, capped-below}
+use Rattle.numerals.specs.Offsets.{capped}
+use Rattle.items.specs.Items.{codeOf, literalCode, cappedCode}
+use Rattle.numerals.proofs.CappedLaws.{capped-small, capped-below}
 use Rattle.format.proofs.Pieces.{Inverse}
-use Rattle.format.proofs.ItemLaws.{GotAt, byte-got}
-use Rattle.format.proofs.ItemChains.{offset-left}
+use Rattle.items.proofs.ItemLaws.{GotAt, byte-got}
+use Rattle.items.proofs.ItemChains.{offset-left}
 use Rattle.judging.specs.Judging.{literalWithin}
 use Rattle.lists.specs.declared.Parts.{Parts}
 use Rattle.lists.specs.declared.Parts.the-variants.{Listed, NoList}

@@ -13,7 +13,7 @@ use Rattle.format.specs.Parse.{Reading, got, refused, andThen, parts}
 use Rattle.format.proofs.Pieces.{Inverse}
 use Rattle.format.proofs.Parts.{parts-more, parts-refused, parts-closed, parts-none}
 use Rattle.format.proofs.WordLaws.{started}
-use Rattle.format.proofs.ItemLaws.{GotAt}
+use Rattle.items.proofs.ItemLaws.{GotAt}
 
 module _ {A : Type 0} where
   -- Parts read before the others.

@@ -15,16 +15,16 @@ use mir.Facts.{toZ-ofZ}
 use borrow.Author.Tests.{leb-true, lt-ltb, ltb-true}
 use Rattle.wellfounded.proofs.Tests.{first, second}
 use Rattle.tables.specs.Limits.{maxMinutes}
-use Rattle.format.specs.declared.terms.Term.the-variants.{Weighed}
-use Rattle.format.specs.declared.pairs.Pair.the-variants.{Paired}
+use Rattle.items.specs.declared.terms.Term.the-variants.{Weighed}
+use Rattle.items.specs.declared.pairs.Pair.the-variants.{Paired}
 use Rattle.format.specs.Forms.{TermText, PairText, termBytes, pairBytes, space}
 use Rattle.format.specs.Words.{wordAt}
 use Rattle.format.specs.Parse.{readTerm, readPair}
-use Rattle.format.specs.Offsets.{capped, clamped}
-use Rattle.format.specs.Items.{literalCode, cappedCode, termAt, pairAt}
-use Rattle.format.proofs.CappedLaws.{capped-small, capped-within, clamped-small, clamped-within, clamped-fits}
+use Rattle.numerals.specs.Offsets.{capped, clamped}
+use Rattle.items.specs.Items.{literalCode, cappedCode, termAt, pairAt}
+use Rattle.numerals.proofs.CappedLaws.{capped-small, capped-within, clamped-small, clamped-within, clamped-fits}
 use Rattle.format.proofs.Pieces.{term-inverse, pair-inverse}
-use Rattle.format.proofs.ItemLaws.{GotAt, byte-got, term-got, pair-got}
+use Rattle.items.proofs.ItemLaws.{GotAt, byte-got, term-got, pair-got}
 use Rattle.judging.specs.Judging.{literalWithin, termWithin, pairWithin}
 use Rattle.lists.specs.Lists.{stored}
 use Rattle.lists.proofs.StoreLaws.{stored-small}

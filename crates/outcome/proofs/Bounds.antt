@@ -29,7 +29,7 @@ use Rattle.tables.specs.Faults.{positionOf, lowest, Test, refusedOr, firstFault
 use Rattle.tables.specs.Rows.{ruleCount, clauseCount, definitionOf}
 use Rattle.tables.specs.Loads.{loadCount}
 use Rattle.tables.specs.Sound.{Tables, bookOf, tableTests, sliceTest, Sizes}
-use Rattle.tables.specs.Satisfied.{clauseTest, loadTest, satisfactionTests}
+use Rattle.satisfaction.specs.Satisfied.{clauseTest, loadTest, satisfactionTests}
 use Rattle.tables.proofs.Faults.{lowest-at, nothing-absent, accepted-absent}
 use Rattle.tables.proofs.SoundTables.{sizes-fault}
 use Rattle.checker.specs.Check.{valueTest, levelTest, supportTest, blockingTest, levelTests, claimTests, checkTests, checkOf}

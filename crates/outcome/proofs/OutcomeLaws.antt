@@ -25,7 +25,7 @@ use Rattle.tables.specs.Faults.{lowest, Test, refusedOr, firstFault}
 use Rattle.tables.specs.Limits.{maxAtoms}
 use Rattle.tables.specs.Rows.{definitionOf}
 use Rattle.tables.specs.Sound.{Tables, lent, bookOf, tableTests, sliceTest}
-use Rattle.tables.specs.Satisfied.{satisfactionTests, clauseTest, loadTest}
+use Rattle.satisfaction.specs.Satisfied.{satisfactionTests, clauseTest, loadTest}
 use Rattle.checker.specs.Check.{checkOf}
 use Rattle.evaluator.specs.Evaluate.{settingTest, undecidedTest, refusalTests, modelTests, evaluated, stoppedOr, evaluateOf, Answers}
 use Rattle.format.specs.Forms.{Form}

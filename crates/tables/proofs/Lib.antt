@@ -1,9 +1,7 @@
--- Laws of faults, tables, clauses and load lines.
+-- Laws of faults, rows, signs and marks.
 pub mod Faults
 pub mod Numbers
+pub mod Signs
 pub mod SoundTables
 pub mod RowFaults
-pub mod Tenths
-pub mod LoadLaws
-pub mod Satisfied
 pub mod MarkLaws

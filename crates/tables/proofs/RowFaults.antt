@@ -16,7 +16,7 @@ use mir.Val.{Fits, hbits, toZ, ofZ}
 use mir.Facts.{toZ-ofZ}
 use borrow.Author.Tests.{not-false, leb-true, leb-false, eqb-true, le-leb, lt-leb}
 use Rattle.wellfounded.specs.Literals.{atomOf}
-use Rattle.tables.specs.Loads.{indexOf}
+use Rattle.tables.specs.Loads.{indexOf, loadEntry, loadLow, loadHigh}
 use Rattle.tables.specs.declared.Found.the-variants.{Nothing}
 use Rattle.tables.specs.Faults.{lowest}
 use Rattle.tables.specs.Sound.{sizesFit, badLiteral}
@@ -121,3 +121,12 @@ sizes-paired atoms rules literals clauses loads loadLiterals minutes fit is pass
     by : (b : Bool) → eqb minutes loadLiterals ≡ b → fit ≡ true → eqb minutes loadLiterals ≡ true
     by true e fits = e
     by false e fits = absurd (false≢true (sym (rw (e, and-false) at is) ∙ fits))
+
+-- The bounds of a load row are its first two entries.
+pub row-low : (loads : List ℤ) (row : ℕ) → getD loads (row * 4) (pos 0) ≡ loadLow loads row
+unfolding loadLow loadEntry
+row-low loads row = let e : row * 4 + 0 ≡ row * 4 = omega arith in rw e
+
+pub row-high : (loads : List ℤ) (row : ℕ) → getD loads (row * 4 + 1) (pos 0) ≡ loadHigh loads row
+unfolding loadHigh loadEntry
+row-high loads row = refl

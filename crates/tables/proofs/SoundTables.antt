@@ -11,7 +11,6 @@ use lib.IntN.{ℤ, pos, negsuc, natAbs}
 use lib.Signed.{nonNeg, _≤ℤ_, leZ-yes}
 use lib.ListN.{length, getD}
 use borrow.Author.Tests.{leb-true, leb-false, le-leb, ltb-true, ltb-false, lt-ltb, eqb-true, eq-eqb, not-false}
-use Rattle.wellfounded.specs.Lists.{all}
 use Rattle.wellfounded.specs.Literals.{atomOf}
 use Rattle.wellfounded.proofs.Tests.{not-both, both, first, second, either, or-left, or-right, neither}
 use Rattle.wellfounded.proofs.Lists.{all-use, all-make}
@@ -22,7 +21,7 @@ use Rattle.tables.specs.Faults.{Test, Absent, firstFault}
 use Rattle.tables.specs.Rows.{ruleWidth, clauseWidth, ruleCount, ruleHead, ruleStart, ruleSize, clauseStart, clauseSize}
 use Rattle.tables.specs.Loads.{loadWidth, loadEntry}
 use Rattle.tables.specs.Sound.{Tables, sizesFit, badRuleRow, badClauseRow, goodLoadRow, badLiteral, badTerm, tableTests, sliceTest, Sizes, LoadRowFits}
-use Rattle.tables.specs.Satisfied.{RulesScannable, ClausesScannable, LoadsScannable}
+use Rattle.tables.specs.Scans.{RulesScannable, ClausesScannable, LoadsScannable}
 use Rattle.tables.proofs.Faults.{absent-nothing, first-passes, first-fails, once-fails}
 
 -- ── Each fault in words ──

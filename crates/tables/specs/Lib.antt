@@ -4,5 +4,5 @@ pub mod Faults
 pub mod Rows
 pub mod Loads
 pub mod Sound
-pub mod Satisfied
+pub mod Scans
 pub mod Marks

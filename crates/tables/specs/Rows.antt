@@ -5,14 +5,14 @@ use mathlib.Core.Bool.{Bool}
 use mathlib.Core.List.{List}
 use lib.Dec.{eqb}
 use lib.ListN.{length, getD}
-use Rattle.wellfounded.specs.Lists.{any, anyBelow, tabulate}
-use Rattle.wellfounded.specs.Literals.{literalTrue, bodyAt}
+use Rattle.wellfounded.specs.Lists.{anyBelow, tabulate}
+use Rattle.wellfounded.specs.Literals.{bodyAt}
 use Rattle.wellfounded.specs.Definitions.{Rule, Definition}
 
--- An entry of a table of 16-bit numbers, as a function reads it.
-pub record Entry (table : List ℕ) (place entry : ℕ) : Type 0 where
-  pub is : entry ≡ getD table place 0
-  pub small : entry < 65536
+-- What a function answers for a field of a row, and how small it is.
+pub record Field (bound field answer : ℕ) : Type 0 where
+  pub is : answer ≡ field
+  pub small : answer < bound
 
 -- A rule row is three numbers: head, start, count.
 abbrev pub ruleWidth : ℕ
@@ -64,7 +64,3 @@ clauseAt clauses literals row = bodyAt literals (clauseStart clauses row) (claus
 
 unfoldable pub clausesOf : List ℕ → List ℕ → List (List ℕ)
 clausesOf clauses literals = tabulate (clauseCount clauses) (clauseAt clauses literals)
-
--- A clause holds if one of its literals is true; an empty clause never holds.
-unfoldable pub clauseHolds : List ℕ → List ℕ → Bool
-clauseHolds values clause = any (literalTrue values) clause

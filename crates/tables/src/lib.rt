@@ -2,11 +2,10 @@
 ghost use mathlib.Core.Path.{_≡_};
 ghost use Rattle.tables.specs.Faults.{faultNumber, numberOf, positionOf};
 
-mod clauses;
-mod loads;
+pub mod load_rows;
 pub mod marks;
+mod row_faults;
 pub mod rows;
-pub mod satisfaction;
 pub mod sizes;
 pub mod values;
 

@@ -5,18 +5,18 @@ ghost use lib.ListN.{length};
 ghost use Rattle.wellfounded.specs.Lists.{count};
 ghost use Rattle.tables.specs.Rows.{ruleCount, ruleHead, headsRule};
 ghost use Rattle.tables.specs.Marks.{isMarked, markWhere};
-use super::rows::RULE_WIDTH;
-use super::rows::entry;
+use super::rows::rule_count;
+use super::rows::rule_head;
 
 // Marks the head of every rule: an atom that heads some rule is defined.
 pub fn mark_heads(rules: &[u16], marks: &mut [u8])
     requires { ⌜ ((row : ℕ) → row < ruleCount (now rules) → ruleHead (now rules) row < length (now marks)) ⌝ }
     ensures { λ r. ⌜ now (marks .exit) ≡ markWhere (headsRule (now (rules .entry))) (now (marks .entry)) ⌝ }
 {
-    let rows = rules.len() / RULE_WIDTH;
+    let rows = rule_count(rules);
     let mut row = 0;
     while row < rows {
-        let head = entry(rules, row * RULE_WIDTH);
+        let head = rule_head(rules, row);
         marks[head] = 1;
         row += 1;
     }

@@ -5,14 +5,14 @@ ghost use Rattle.tables.specs.Sound.{lent, sizesFit, tableTests};
 use super::Fault;
 use super::Found;
 use super::Verdict;
+use super::load_rows::LOAD_WIDTH;
+use super::row_faults::bad_clause_row;
+use super::row_faults::bad_literal;
+use super::row_faults::bad_load_row;
+use super::row_faults::bad_rule_row;
+use super::row_faults::bad_term;
 use super::rows::CLAUSE_WIDTH;
-use super::rows::LOAD_WIDTH;
 use super::rows::RULE_WIDTH;
-use super::rows::bad_clause_row;
-use super::rows::bad_literal;
-use super::rows::bad_load_row;
-use super::rows::bad_rule_row;
-use super::rows::bad_term;
 
 pub const MAX_ATOMS: usize = 1024;
 

@@ -50,8 +50,8 @@ fn show_built(
     show_text(name, &buffer[0..length]);
 }
 
-// Rows, literals and terms at their limits and one past them.
-fn run_counts() {
+// Rules at their limit and one past it.
+fn run_rules() {
     show_built(
         b"2048-rules",
         b"(atoms 1)\n",
@@ -79,6 +79,10 @@ fn run_counts() {
         0,
         b"(clause)\n(rule 0)\n(open)\n",
     );
+}
+
+// Clauses and the literals of rules and clauses together at their limits and one past them.
+fn run_clauses() {
     show_built(
         b"2048-clauses",
         b"(atoms 1)\n",
@@ -115,6 +119,10 @@ fn run_counts() {
         1024,
         b"(clause 0)\n(open)\n",
     );
+}
+
+// Load lines and their terms at their limits and one past them.
+fn run_loads() {
     show_built(
         b"64-loads",
         b"(atoms 1)\n",
@@ -133,9 +141,6 @@ fn run_counts() {
         0,
         b"(open)\n",
     );
-}
-
-fn run_long_lines() {
     show_built(
         b"4096-terms",
         b"(atoms 1)\n(load 0 0",
@@ -154,6 +159,10 @@ fn run_long_lines() {
         0,
         b")\n(load 0 0 (0 0))\n(open)\n",
     );
+}
+
+// Claim pairs, digits and bytes at their limits and one past them.
+fn run_long_lines() {
     show_built(
         b"1024-claim-pairs",
         b"(atoms 1024)\n(claim",
@@ -202,6 +211,8 @@ fn run_long_lines() {
 }
 
 pub fn run_built_texts() {
-    run_counts();
+    run_rules();
+    run_clauses();
+    run_loads();
     run_long_lines();
 }

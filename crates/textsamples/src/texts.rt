@@ -46,8 +46,8 @@ pub fn show_text(name: &[u8], text: &[u8]) {
     end_line();
 }
 
-// Lines that are no forms.
-fn run_malformed() {
+// Lines that are no forms for their spaces, ends or letters.
+fn run_spacing() {
     show_text(b"no-final-line-end", b"(atoms 1)\n(open)");
     show_text(b"empty-line", b"(atoms 1)\n\n(open)\n");
     show_text(b"two-spaces", b"(atoms  1)\n(open)\n");
@@ -55,12 +55,20 @@ fn run_malformed() {
     show_text(b"space-at-the-line's-start", b" (atoms 1)\n(open)\n");
     show_text(b"carriage-return", b"(atoms 1)\r\n(open)\r\n");
     show_text(b"capital-letter", b"(Atoms 1)\n(open)\n");
+}
+
+// Numbers that are none.
+fn run_malformed_numbers() {
     show_text(b"leading-zero", b"(atoms 01)\n(open)\n");
     show_text(b"minus-zero", b"(atoms 1)\n(load -0 0)\n(open)\n");
     show_text(b"minus-before-an-atom", b"(atoms 1)\n(rule -1)\n(open)\n");
     show_text(b"minus-before-N", b"(atoms -1)\n(open)\n");
     show_text(b"minus-before-a-value", b"(atoms 1)\n(claim (-1 0))\n");
     show_text(b"minus-before-a-level", b"(atoms 1)\n(claim (0 -1))\n");
+}
+
+// Forms with other parts than theirs, and lines that are also out of their limits.
+fn run_malformed_forms() {
     show_text(
         b"not-of-not",
         b"(atoms 1)\n(rule 0 (not (not 0)))\n(open)\n",
@@ -74,12 +82,16 @@ fn run_malformed() {
     show_text(b"unended-beats-limits", b"(atoms 1025)");
 }
 
-// Forms out of order, missing, or out of their limits.
-fn run_order() {
+// Forms that are missing.
+fn run_missing() {
     show_text(b"empty-text", b"");
     show_text(b"atoms-alone", b"(atoms 1)\n");
     show_text(b"no-atoms-form", b"(open)\n");
     show_text(b"state-missing", b"(atoms 2)\n(rule 0 1)\n");
+}
+
+// Forms out of order.
+fn run_order() {
     show_text(b"second-atoms-form", b"(atoms 1)\n(atoms 1)\n(open)\n");
     show_text(
         b"second-atoms-form-of-1025",
@@ -96,12 +108,20 @@ fn run_order() {
     show_text(b"second-state-form", b"(atoms 1)\n(open)\n(claim (0 0))\n");
     show_text(b"empty-line-after-the-state", b"(atoms 1)\n(open)\n\n");
     show_text(b"limits-beat-order", b"(rule 1024)\n");
+}
+
+// Open atoms, in order and out of it.
+fn run_open_atoms() {
     show_text(b"open-1023-first", b"(open 1023)\n");
     show_text(b"open-1024-first", b"(open 1024)\n");
     show_text(b"open-atoms-equal", b"(atoms 3)\n(open 1 1)\n");
     show_text(b"open-atoms-falling", b"(atoms 3)\n(open 2 1)\n");
     show_text(b"open-atoms-rising", b"(atoms 3)\n(open 0 2)\n");
     show_text(b"open-atom-of-N", b"(atoms 3)\n(open 3)\n");
+}
+
+// Claims with other pairs than one for each atom, and books with no atoms.
+fn run_claim_pairs() {
     show_text(b"claim-pair-missing", b"(atoms 2)\n(claim (0 0))\n");
     show_text(
         b"claim-pair-too-many",
@@ -112,14 +132,18 @@ fn run_order() {
     show_text(b"no-atoms-and-open-0", b"(atoms 0)\n(open 0)\n");
 }
 
-// Numbers at their limits and one past them.
-fn run_numbers() {
+// Atoms at their limits and one past them.
+fn run_atom_limits() {
     show_text(b"atoms-1024", b"(atoms 1024)\n(open)\n");
     show_text(b"atoms-1025", b"(atoms 1025)\n(open)\n");
     show_text(b"head-1023", b"(atoms 1)\n(rule 1023)\n(open)\n");
     show_text(b"head-1024", b"(atoms 1)\n(rule 1024)\n(open)\n");
     show_text(b"literal-1023", b"(atoms 1)\n(clause (not 1023))\n(open)\n");
     show_text(b"literal-1024", b"(atoms 1)\n(clause (not 1024))\n(open)\n");
+}
+
+// Minutes, load literals and bounds at their limits and one past them.
+fn run_load_limits() {
     show_text(
         b"minutes-1440",
         b"(atoms 1)\n(load 0 0 (1440 0) (-1440 0))\n(open)\n",
@@ -145,6 +169,10 @@ fn run_numbers() {
         b"high-bound-1000001",
         b"(atoms 1)\n(load 0 1000001)\n(open)\n",
     );
+}
+
+// Values and levels at their limits and one past them, and a number that no word of the machine holds.
+fn run_claim_limits() {
     show_text(
         b"value-255-level-65535",
         b"(atoms 1)\n(claim (255 65535))\n",
@@ -154,8 +182,16 @@ fn run_numbers() {
     show_text(b"20-digits", b"(atoms 18446744073709551617)\n(open)\n");
 }
 
+// The texts of each function are few: what is known of every text before is carried along while one is proved.
 pub fn run_texts() {
-    run_malformed();
+    run_spacing();
+    run_malformed_numbers();
+    run_malformed_forms();
+    run_missing();
     run_order();
-    run_numbers();
+    run_open_atoms();
+    run_claim_pairs();
+    run_atom_limits();
+    run_load_limits();
+    run_claim_limits();
 }

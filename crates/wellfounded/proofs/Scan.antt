@@ -65,9 +65,9 @@ module _ {p : ℕ → Bool} {literals : List ℕ} {size : ℕ} where
   unfolding any
   seek-end {i} h s = sym (rw (body-empty literals i size h) at (s .rest))
 
--- The part `&literals[start..]` is the table from start on.
-pub part-is : (literals : List ℕ) (start : ℕ) → take (length literals - start) (drop start literals) ≡ drop start literals
-part-is literals start = take-all (length literals - start) (drop start literals) (rw length-drop (omega arith))
+-- The part `&table[start..]` is the table from start on.
+pub part-is : {A : Type 0} (table : List A) (start : ℕ) → take (length table - start) (drop start table) ≡ drop start table
+part-is table start = take-all (length table - start) (drop start table) (rw length-drop (omega arith))
 
 -- A body at start is one at the beginning of the part,
 pub part-body : (literals : List ℕ) (start size : ℕ) → bodyAt (take (length literals - start) (drop start literals)) 0 size ≡ bodyAt literals start size

@@ -63,7 +63,7 @@ claim-fault-requires : tie.Need-claim-fault-requires
 unfolding lent
 claim-fault-requires c κs =
     let at = c .before .before in
-    let none = accepted-absent (tableTests (given at)) (sym (at .before .before .table-fault .ensures) ∙ at .enum-told2 .given .1) in
+    let none = accepted-absent (tableTests (given at)) (rw (← at .before .before .table-fault .ensures) (at .enum-told2 .given .1)) in
     let ready = claim-ready (given at) _ _ none (c .before .if1 .left) (c .if2 .left) in
     (ready .0, (ready .1, ready .2))
 

@@ -6,7 +6,7 @@ use lib.ListN.{length}
 use borrow.Author.Needs.{needs}
 use Rattle.tables.specs.Faults.{firstFault}
 use Rattle.tables.specs.Sound.{lent, bookOf}
-use Rattle.tables.specs.Satisfied.{satisfactionTests}
+use Rattle.satisfaction.specs.Satisfied.{satisfactionTests}
 use Rattle.tables.proofs.Faults.{found-refuses, nothing-leaves, verdict-refuses, verdict-leaves}
 use Rattle.checker.specs.Check.{valueTest, levelTests, claimTests}
 use Rattle.checker.proofs.claim_fault.Statement.{statement}

@@ -38,10 +38,7 @@ slice-aggregate-mark-heads : tie.Need-slice-aggregate-mark-heads
 slice-aggregate-mark-heads c = search needs
 
 mark-heads-requires : tie.Need-mark-heads-requires
-mark-heads-requires c κs = λ row l.
-    let pre = c .before .before .before .before .before .pre in
-    let head = pre .rows .heads row l in
-    omega arith
+mark-heads-requires c κs = λ row l. omega (arith, c .before .before .before .before .before .pre .rows .heads row l)
 
 slice-aggregate-count-marked : tie.Need-slice-aggregate-count-marked
 slice-aggregate-count-marked c = search needs

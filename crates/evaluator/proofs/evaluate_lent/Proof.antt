@@ -6,13 +6,11 @@ use native.Mathlib.Omega.{arith}
 use lib.ListN.{length, length-replicate}
 use borrow.Author.Needs.{needs}
 use Rattle.tables.specs.Faults.{lowest}
-use Rattle.tables.specs.Rows.{definitionOf}
-use Rattle.tables.specs.Satisfied.{satisfactionTests}
+use Rattle.satisfaction.specs.Satisfied.{satisfactionTests}
 use Rattle.tables.specs.Sound.{Tables, lent, bookOf}
 use Rattle.tables.proofs.MarkLaws.{mark-length}
-use Rattle.wellfounded.proofs.Closure.{model-length}
 use Rattle.evaluator.specs.Evaluate.{badSetting}
-use Rattle.evaluator.proofs.Evaluating.{setting-same, stages-ready, stopped-answer, made-answer}
+use Rattle.evaluator.proofs.Evaluating.{setting-same, stages-ready, done-long, stopped-answer, made-answer}
 use Rattle.evaluator.proofs.evaluate_lent.Statement.{statement}
 use Rattle.evaluator.proofs.evaluate_lent.Tie as tie
 
@@ -68,10 +66,10 @@ evaluate-stages-requires c κs =
     stages-ready (given s) _ _ _ _ refl (s .pre) _ (c .before .before .before .before .before .before .before .before .before .mark-heads .ensures)
 
 model-fault-requires : tie.Need-model-fault-requires
-unfolding lent definitionOf
+unfolding lent
 model-fault-requires c κs =
     let s = c .before .before .before .before .before .before .before .before .before .before .before .before .before .before .before .before .before .before .before .before .before .before .before .before .before .before .before in
-    rw (c .before .before .before .before .before .before .before .evaluate-stages .ensures .model, model-length) (s .pre .clauseRows, s .pre .loadRows)
+    rw (done-long (c .before .before .before .before .before .before .before .evaluate-stages .ensures)) (s .pre .clauseRows, s .pre .loadRows)
 
 same-length : tie.Need-same-length
 same-length c = search needs

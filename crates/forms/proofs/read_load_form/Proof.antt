@@ -10,13 +10,13 @@ use lib.IntN.{ℤ, natAbs}
 use borrow.Author.Needs.{needs}
 use borrow.Author.Tests.{not-true, not-false}
 use Rattle.tables.specs.Limits.{maxBound}
-use Rattle.format.specs.declared.signed.Signed.the-variants.{Whole}
+use Rattle.numerals.specs.declared.signed.Signed.the-variants.{Whole}
 use Rattle.format.specs.Forms.{termBytes}
 use Rattle.format.specs.Words.{wordAt}
 use Rattle.format.specs.Parse.{readTerm}
-use Rattle.format.specs.Offsets.{signedAt}
+use Rattle.numerals.specs.Offsets.{signedAt}
 use Rattle.format.proofs.Pieces.{term-inverse}
-use Rattle.format.proofs.ItemLaws.{byte-got}
+use Rattle.items.proofs.ItemLaws.{byte-got}
 use Rattle.judging.proofs.Counts.{counted}
 use Rattle.forms.specs.Entries.{loadRow, termsIn}
 use Rattle.forms.proofs.FormLaws.{signed-after, signed-kept, count-small}

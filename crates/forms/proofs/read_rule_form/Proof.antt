@@ -7,11 +7,11 @@ use mathlib.Core.List.{[], _∷_}
 use native.Mathlib.Omega.{arith}
 use borrow.Author.Needs.{needs}
 use borrow.Author.Tests.{not-true, not-false}
-use Rattle.format.specs.declared.numbers.Number.the-variants.{Read}
+use Rattle.numerals.specs.declared.numbers.Number.the-variants.{Read}
 use Rattle.format.specs.Forms.{literalBytes}
 use Rattle.format.specs.Words.{wordAt}
 use Rattle.format.specs.Parse.{readLiteral}
-use Rattle.format.specs.Offsets.{numberAt}
+use Rattle.numerals.specs.Offsets.{numberAt}
 use Rattle.format.proofs.Pieces.{literal-inverse}
 use Rattle.judging.proofs.Counts.{counted}
 use Rattle.forms.specs.Entries.{ruleRow, literalsIn}

@@ -8,13 +8,13 @@ use native.Mathlib.Omega.{arith}
 use lib.ListN.{length}
 use borrow.Author.Needs.{needs}
 use borrow.Author.Tests.{not-true, not-false}
-use Rattle.format.specs.declared.numbers.Number.the-variants.{Read}
+use Rattle.numerals.specs.declared.numbers.Number.the-variants.{Read}
 use Rattle.format.specs.Forms.{decimal}
 use Rattle.format.specs.Words.{wordAt}
 use Rattle.format.specs.Parse.{readNumber}
-use Rattle.format.specs.Offsets.{numberAt, beyondLimits}
+use Rattle.numerals.specs.Offsets.{numberAt, beyondLimits}
 use Rattle.format.proofs.Pieces.{number-inverse}
-use Rattle.format.proofs.ItemLaws.{number-none-read, byte-got}
+use Rattle.items.proofs.ItemLaws.{number-none-read, byte-got}
 use Rattle.lists.proofs.ListLaws.{listing-refused, listing-unclosed, listing-end}
 use Rattle.lists.proofs.AtomLaws.{Marking, marking-start, marking-turn, atom-room}
 use Rattle.lists.proofs.read_atoms.Statement.{statement}

@@ -12,9 +12,9 @@ use borrow.Author.Tests.{not-true, not-false}
 use Rattle.format.specs.Forms.{LiteralText, literalBytes, space, closing}
 use Rattle.format.specs.Words.{wordAt}
 use Rattle.format.specs.Parse.{readLiteral}
-use Rattle.format.specs.Items.{cappedCode}
+use Rattle.items.specs.Items.{cappedCode}
 use Rattle.format.proofs.Pieces.{literal-inverse}
-use Rattle.format.proofs.ItemLaws.{GotAt, literal-got, literal-none, byte-got}
+use Rattle.items.proofs.ItemLaws.{GotAt, literal-got, literal-none, byte-got}
 use Rattle.judging.specs.Judging.{literalWithin}
 use Rattle.lists.specs.Lists.{stored}
 use Rattle.lists.proofs.ListLaws.{LaidLiterals, Listing, listing-start, listing-turn, listing-refused, listing-unclosed, listing-end, literal-tested, literal-stored}

@@ -8,13 +8,13 @@ use native.Mathlib.Omega.{arith}
 use lib.ListN.{length}
 use borrow.Author.Needs.{needs}
 use borrow.Author.Tests.{not-true, not-false}
-use Rattle.format.specs.declared.pairs.Pair.the-variants.{Paired}
+use Rattle.items.specs.declared.pairs.Pair.the-variants.{Paired}
 use Rattle.format.specs.Forms.{pairBytes}
 use Rattle.format.specs.Words.{wordAt}
 use Rattle.format.specs.Parse.{readPair}
-use Rattle.format.specs.Items.{pairAt}
+use Rattle.items.specs.Items.{pairAt}
 use Rattle.format.proofs.Pieces.{pair-inverse}
-use Rattle.format.proofs.ItemLaws.{byte-got, pair-none}
+use Rattle.items.proofs.ItemLaws.{byte-got, pair-none}
 use Rattle.lists.proofs.ListLaws.{listing-refused, listing-unclosed, listing-end}
 use Rattle.lists.proofs.TermLaws.{PairsCame, pairs-start, pairs-count, pairs-on, pairs-turn}
 use Rattle.lists.proofs.read_pairs.Statement.{statement}

@@ -8,13 +8,13 @@ use native.Mathlib.Omega.{arith}
 use lib.ListN.{length}
 use borrow.Author.Needs.{needs}
 use borrow.Author.Tests.{not-true, not-false}
-use Rattle.format.specs.declared.terms.Term.the-variants.{Weighed}
+use Rattle.items.specs.declared.terms.Term.the-variants.{Weighed}
 use Rattle.format.specs.Forms.{termBytes}
 use Rattle.format.specs.Words.{wordAt}
 use Rattle.format.specs.Parse.{readTerm}
-use Rattle.format.specs.Items.{termAt}
+use Rattle.items.specs.Items.{termAt}
 use Rattle.format.proofs.Pieces.{term-inverse}
-use Rattle.format.proofs.ItemLaws.{byte-got, term-none}
+use Rattle.items.proofs.ItemLaws.{byte-got, term-none}
 use Rattle.lists.proofs.ListLaws.{listing-refused, listing-unclosed, listing-end}
 use Rattle.lists.proofs.TermLaws.{TermsCame, terms-start, terms-count, terms-on, terms-turn}
 use Rattle.lists.proofs.read_terms.Statement.{statement}

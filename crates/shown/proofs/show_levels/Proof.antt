@@ -1,8 +1,6 @@
 -- `shown::show_levels` is safe: the loop stays within the slice.
 -- Assumes nothing.
 use Prim.Native.Nat.{_≤_, _-_}
-use mathlib.Core.Path.{_≡_}
-use native.Mathlib.Omega.{arith}
 use lib.ListN.{length}
 use borrow.Author.Needs.{needs}
 use Rattle.shown.proofs.show_levels.Statement.{statement}

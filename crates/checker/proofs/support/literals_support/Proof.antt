@@ -1,7 +1,7 @@
 -- `checker::support::literals_support` meets its contract: in every definition whose levels are in range, the literals from `i` on all support
 -- the atom where the whole body does.
 -- Assumes nothing.
-use Prim.Native.Nat.{ℕ, _-_, _≤_}
+use Prim.Native.Nat.{ℕ, _-_}
 use mathlib.Core.Path.{_≡_, sym, _∙_}
 use native.Mathlib.Omega.{arith}
 use borrow.Author.Tests.{not-true, not-false}
@@ -14,14 +14,13 @@ use Rattle.checker.proofs.support.literals_support.Tie as tie
 
 abbrev Inv-loop : tie.InvT-loop
 Inv-loop literals size level values levels i₀ i =
-    (i ≤ size) ×
-    ((d : Definition) (atom : ℕ) → Ranged d values levels → levelAt levels atom ≡ level → Scanned (supports d values levels atom) literals size i)
+    (d : Definition) (atom : ℕ) → Ranged d values levels → levelAt levels atom ≡ level → Scanned (supports d values levels atom) literals size i
 
 abbrev μ-loop : tie.MeasureT-loop
 μ-loop literals size level values levels i₀ i = size - i
 
 loop-holds : tie.Need-loop-holds Inv-loop μ-loop
-loop-holds c = (omega arith, λ d atom ranged at. scan-start)
+loop-holds c = λ d atom ranged at. scan-start
 
 mul-literal-supports : tie.Need-mul-literal-supports Inv-loop μ-loop
 mul-literal-supports c = omega arith
@@ -36,11 +35,10 @@ literal-supports-requires c κs =
     (record { value = known; level = omega arith }, pre .2)
 
 returns : tie.Need-returns Inv-loop μ-loop
-returns c =
-    λ d atom ranged at.
+returns c = λ d atom ranged at.
     sym
     (scan-stop (omega arith) (omega arith) (sym (c .before .literal-supports .ensures d atom ranged at) ∙ not-true _ (c .if1 .taken))
-    (c .before .before .before .before .loop .inv .1 d atom ranged at))
+    (c .before .before .before .before .loop .inv d atom ranged at))
 
 add-i : tie.Need-add-i Inv-loop μ-loop
 add-i c = omega arith
@@ -49,15 +47,12 @@ loop-less : tie.Need-loop-less Inv-loop μ-loop
 loop-less c = omega arith
 
 loop-again : tie.Need-loop-again Inv-loop μ-loop
-loop-again c = (
-  omega arith,
-  λ d atom ranged at.
-      scan-turn (omega arith) (omega arith) (sym (c .before .literal-supports .ensures d atom ranged at) ∙ not-false _ (c .if1 .left))
-      (c .before .before .before .before .loop .inv .1 d atom ranged at),
-)
+loop-again c = λ d atom ranged at.
+    scan-turn (omega arith) (omega arith) (sym (c .before .literal-supports .ensures d atom ranged at) ∙ not-false _ (c .if1 .left))
+    (c .before .before .before .before .loop .inv d atom ranged at)
 
 returns-2 : tie.Need-returns-2 Inv-loop μ-loop
-returns-2 c = λ d atom ranged at. sym (scan-end (omega arith) (c .before .loop .inv .1 d atom ranged at))
+returns-2 c = λ d atom ranged at. sym (scan-end (omega arith) (c .before .loop .inv d atom ranged at))
 
 pub literals-support-spec : {M : Type 1} → statement M
 literals-support-spec =

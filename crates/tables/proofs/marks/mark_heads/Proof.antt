@@ -4,8 +4,9 @@ use Prim.Native.Nat.{_-_, _≤_}
 use mathlib.Core.Path.{sym, _∙_}
 use native.Mathlib.Omega.{arith}
 use lib.Dec.{eqb}
+use borrow.Author.Needs.{needs}
 use borrow.Author.Tests.{eq-eqb, ne-eqb}
-use Rattle.tables.specs.Rows.{ruleCount, ruleHead, headsRule}
+use Rattle.tables.specs.Rows.{ruleHead, headsRule}
 use Rattle.tables.proofs.MarkLaws.{Marked, marked-start, marked-put, marked-end}
 use Rattle.tables.proofs.marks.mark_heads.Statement.{statement}
 use Rattle.tables.proofs.marks.mark_heads.Tie as tie
@@ -16,18 +17,17 @@ Inv-loop rules marks₀ rows row₀ marks row = (row ≤ rows) × Marked (λ r a
 abbrev μ-loop : tie.MeasureT-loop
 μ-loop rules marks₀ rows row₀ marks row = rows - row
 
+rule-count-requires : tie.Need-rule-count-requires Inv-loop μ-loop
+rule-count-requires c κs = search needs
+
 loop-holds : tie.Need-loop-holds Inv-loop μ-loop
 loop-holds c = (omega arith, marked-start _ _)
 
-mul-entry : tie.Need-mul-entry Inv-loop μ-loop
-mul-entry c = omega arith
-
-entry-requires : tie.Need-entry-requires Inv-loop μ-loop
-entry-requires c κs = omega arith
+rule-head-requires : tie.Need-rule-head-requires Inv-loop μ-loop
+rule-head-requires c κs = omega arith
 
 slice-write-marks : tie.Need-slice-write-marks Inv-loop μ-loop
-unfolding ruleHead ruleCount
-slice-write-marks c = omega (arith, c .before .before .before .before .before .pre _ (c .before .loop-test .taken))
+slice-write-marks c = omega (arith, c .before .before .before .before .before .before .pre (c .before .before .loop .row) (omega arith))
 
 add-row : tie.Need-add-row Inv-loop μ-loop
 add-row c = omega arith
@@ -36,16 +36,15 @@ loop-less : tie.Need-loop-less Inv-loop μ-loop
 loop-less c = omega arith
 
 loop-again : tie.Need-loop-again Inv-loop μ-loop
-unfolding ruleHead
 loop-again c =
-    let head = c .entry .ensures .is in
+    let head = c .rule-head .ensures .is in
     (omega arith, marked-put _ _ _ _ _ (eq-eqb _ _ (sym head)) (λ atom other. ne-eqb _ _ (λ e. other (head ∙ e))) (c .before .before .loop .inv .1))
 
 same-length : tie.Need-same-length Inv-loop μ-loop
 same-length c = c .before .loop .inv .1 .long
 
 returns : tie.Need-returns Inv-loop μ-loop
-unfolding headsRule ruleCount
+unfolding headsRule
 returns c = marked-end _ _ _ _ _ (omega arith) (c .before .loop .inv .1)
 
 pub mark-heads-spec : {M : Type 1} → statement M
@@ -54,9 +53,9 @@ mark-heads-spec =
     (tie.spec
     Inv-loop
     μ-loop
+    rule-count-requires
     loop-holds
-    mul-entry
-    entry-requires
+    rule-head-requires
     slice-write-marks
     add-row
     loop-less

@@ -7,7 +7,7 @@ use mir.Syntax.{w32, w64}
 use mir.Val.{toZ, ofZ, Fits}
 use mir.Facts.{toZ-ofZ, sfits-widen, fits-natAbs}
 use borrow.Author.Needs.{needs}
-use Rattle.tables.proofs.LoadLaws.{is-negative, is-not-negative}
+use Rattle.tables.proofs.Signs.{is-negative, is-not-negative}
 use Rattle.textsamples.proofs.lent_tables.show_whole.Statement.{statement}
 use Rattle.textsamples.proofs.lent_tables.show_whole.Tie as tie
 
@@ -23,7 +23,7 @@ cast-print-decimal c = let f = c .before .before .before .fits .number in rw (to
 difference : (c : tie.After-write-all) → pos 0 -ℤ toZ w64 (ofZ w64 (toZ w32 (ofZ w32 (c .before .before .before .args .number)))) ≡ pos (natAbs (c .before .before .before .args .number))
 difference c =
     let f = c .before .before .before .fits .number in
-    rw (toZ-ofZ (cast-print-decimal c), toZ-ofZ f) (is-negative f (c .before .before .if1 .taken) .magnitude)
+    rw (toZ-ofZ (cast-print-decimal c), toZ-ofZ f) (is-negative f (c .before .before .if1 .taken))
 
 magnitude-small : (c : tie.After-write-all) → Fits w32 (natAbs (c .before .before .before .args .number))
 magnitude-small c = fits-natAbs tt (c .before .before .before .fits .number)
@@ -46,7 +46,7 @@ write-all-requires-2 c κs = search needs
 cast-print-decimal-3 : tie.Need-cast-print-decimal-3
 cast-print-decimal-3 c =
     let f = c .before .before .before .fits .number in
-    rw (toZ-ofZ f) (is-not-negative f (c .before .before .if1 .left) .passes, fits-natAbs tt f)
+    rw (toZ-ofZ f) (is-not-negative f (c .before .before .if1 .left), fits-natAbs tt f)
 
 print-decimal-requires-2 : tie.Need-print-decimal-requires-2
 print-decimal-requires-2 c κs = search needs

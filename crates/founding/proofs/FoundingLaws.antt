@@ -1,0 +1,258 @@
+-- Laws of founding: the marks to begin with, a row, a pass, and passes until nothing is marked.
+-- Assumes nothing.
+use Prim.Native.Nat.{ℕ, zero, suc, _+_, _≤_, _<_}
+use mathlib.Core.Path.{_≡_, refl, sym, ap, subst, _∙_}
+use mathlib.Core.Logic.{_⊎_, inl, inr, ⊎-elim}
+use mathlib.Core.Bool.{Bool, true, false, not, cond, _||_}
+use mathlib.Core.List.{List}
+use native.Mathlib.Nat.{le-of-suc-le-suc, not-suc-le-zero, eq-or-lt-of-le}
+use native.Mathlib.Numerals.{add-one}
+use native.Mathlib.Omega.{arith}
+use lib.Dec.{eqb}
+use lib.ListN.{length, getD, set, length-set}
+use lib.Seq.{ext-getD, getD-set-same, getD-set-other, set-out}
+use borrow.Author.Tests.{eqb-true, eqb-false, ne-eqb}
+use Rattle.wellfounded.specs.Lists.{iterate, count}
+use Rattle.wellfounded.specs.Literals.{isTrue, valueAt}
+use Rattle.wellfounded.proofs.Tests.{decided}
+use Rattle.wellfounded.proofs.Lists.{length-tabulate, getD-tabulate, iterate-fixed, le-or-lt, count-le, count-same}
+use Rattle.wellfounded.proofs.Literals.{value-beyond}
+use Rattle.tables.specs.Rows.{ruleCount, ruleHead}
+use Rattle.tables.specs.Marks.{isMarked}
+use Rattle.tables.proofs.MarkLaws.{set-again}
+use Rattle.founding.specs.Founding.{rowFounds, foundRow, foundRows, foundPass, foundStart, foundAll, unmarked, Passed}
+
+-- ── The marks to begin with ──
+
+-- An atom beyond the values is not true.
+pub beyond-untrue : (values : List ℕ) (atom : ℕ) → length values ≤ atom → isTrue (valueAt values atom) ≡ false
+unfolding isTrue
+beyond-untrue values atom h = ap isTrue (value-beyond values atom h)
+
+-- The loop has come to n: the marks below n are those to begin with.
+pub record Started (defined values : List ℕ) (long n : ℕ) (marks : List ℕ) : Type 0 where
+  pub low : n ≤ long
+  pub same : length marks ≡ long
+  pub is : (atom : ℕ) → atom < n → getD marks atom 0 ≡ cond (not (isMarked defined atom) || isTrue (valueAt values atom)) 1 0
+
+module _ {defined values : List ℕ} where
+  pub started-start : (marks : List ℕ) → Started defined values (length marks) 0 marks
+  started-start marks = record { low = omega arith; same = refl; is = λ atom l. absurd (not-suc-le-zero l) }
+
+  pub started-turn :
+      (long n mark : ℕ) (marks : List ℕ) → n < long → mark ≡ cond (not (isMarked defined n) || isTrue (valueAt values n)) 1 0 →
+      Started defined values long n marks → Started defined values long (n + 1) (set marks n mark)
+  started-turn long n mark marks l e s =
+      record {
+        low = omega arith;
+        same = simp length-set (s .same);
+        is = λ atom b.
+            ⊎-elim
+            (λ (here : eqb atom n ≡ true). rw (eqb-true atom n here) (getD-set-same marks n mark 0 (omega (arith, s .same)) ∙ e))
+            (λ (other : eqb atom n ≡ false).
+            let ne : atom ≡ n → ⊥ = eqb-false atom n other in
+            getD-set-other marks n atom mark 0 ne ∙ s .is atom (below atom b ne))
+            (decided (eqb atom n));
+      }
+    where
+      below : (atom : ℕ) → atom < n + 1 → (atom ≡ n → ⊥) → atom < n
+      below atom b ne = ⊎-elim (λ (e′ : atom ≡ n). absurd (ne e′)) (λ (l′ : atom < n). l′) (eq-or-lt-of-le (omega arith))
+
+  pub started-end :
+      (n : ℕ) (before marks : List ℕ) → length before ≤ n → Started defined values (length before) n marks → marks ≡ foundStart defined values before
+  unfolding foundStart
+  started-end n before marks h s =
+      ext-getD 0 _ _ (s .same ∙ sym (length-tabulate _ _))
+      (λ atom l. s .is atom (omega (arith, s .same)) ∙ sym (getD-tabulate (length before) _ atom 0 (omega (arith, s .same))))
+
+-- ── How many atoms are not marked ──
+
+-- Tests that differ at one number.
+count-flip :
+    (n : ℕ) (p q : ℕ → Bool) (k : ℕ) → k < n → p k ≡ true → q k ≡ false → ((j : ℕ) → (j ≡ k → ⊥) → q j ≡ p j) → 1 + count n q ≡ count n p
+unfolding count
+count-flip zero p q k l pk qk others = absurd (not-suc-le-zero l)
+count-flip (suc n) p q k l pk qk others =
+    ⊎-elim
+    (λ (here : k ≡ n).
+    rw (← here, pk, qk, here, count-same n q p (λ j b. others j (λ e. omega arith))) (omega arith))
+    (λ (below : k < n).
+    rw (others n (λ e. omega arith), ← count-flip n p q k below pk qk others) (omega arith))
+    (eq-or-lt-of-le (le-of-suc-le-suc l))
+
+pub unmarked-le : (marks : List ℕ) → unmarked marks ≤ length marks
+unfolding unmarked
+unmarked-le marks = count-le _ _
+
+-- One more mark.
+pub unmarked-set : (marks : List ℕ) (head : ℕ) → head < length marks → (getD marks head 0 ≡ 1 → ⊥) → 1 + unmarked (set marks head 1) ≡ unmarked marks
+unfolding unmarked isMarked
+unmarked-set marks head l new =
+    rw (length-set marks head 1)
+    (count-flip (length marks) _ _ head l (rw (ne-eqb _ _ new)) (rw (getD-set-same marks head 1 0 l))
+    (λ atom other. rw (getD-set-other marks head atom 1 0 other)))
+
+-- ── A row and a pass ──
+
+-- The code's row, which reads the head first.
+module _ (rules literals state marks : List ℕ) (row head : ℕ) (is : head ≡ ruleHead rules row) where
+  -- A row whose head is marked changes nothing,
+  pub row-marked : getD marks head 0 ≡ 1 → marks ≡ foundRow rules literals state marks row
+  unfolding foundRow
+  row-marked e = rw (← is, set-again marks head e) (step (rowFounds rules literals state marks row))
+    where
+      step : (b : Bool) → marks ≡ cond b marks marks
+      step true = refl
+      step false = refl
+
+  -- nor does one that does not found it,
+  pub row-passes : {founds : Bool} → founds ≡ rowFounds rules literals state marks row → founds ≡ false → marks ≡ foundRow rules literals state marks row
+  unfolding foundRow
+  row-passes so e = rw (← so, e)
+
+  -- and one that founds it marks it.
+  pub row-marks : {founds : Bool} → founds ≡ rowFounds rules literals state marks row → founds ≡ true → set marks head 1 ≡ foundRow rules literals state marks row
+  unfolding foundRow
+  row-marks so e = rw (← so, e, is)
+
+  -- In all, a row changes nothing, or leaves fewer unmarked.
+  row-settles-at : (foundRow rules literals state marks row ≡ marks) ⊎ (unmarked (foundRow rules literals state marks row) < unmarked marks)
+  row-settles-at =
+      ⊎-elim
+      (λ (founds : rowFounds rules literals state marks row ≡ true).
+      ⊎-elim (λ (here : eqb (getD marks head 0) 1 ≡ true). inl (sym (row-marked (eqb-true _ _ here))))
+      (λ (new : eqb (getD marks head 0) 1 ≡ false).
+      ⊎-elim (λ (beyond : length marks ≤ head). inl (sym (row-marks refl founds) ∙ set-out marks head 1 beyond))
+      (λ (l : head < length marks). inr (rw (← row-marks refl founds) (omega (arith, unmarked-set marks head l (eqb-false _ _ new)))))
+      (le-or-lt (length marks) head)) (decided (eqb (getD marks head 0) 1)))
+      (λ (none : rowFounds rules literals state marks row ≡ false). inl (sym (row-passes refl none)))
+      (decided (rowFounds rules literals state marks row))
+
+module _ (rules literals state : List ℕ) where
+  row-settles :
+      (marks : List ℕ) (row : ℕ) → (foundRow rules literals state marks row ≡ marks) ⊎ (unmarked (foundRow rules literals state marks row) < unmarked marks)
+  row-settles marks row = row-settles-at rules literals state marks row (ruleHead rules row) refl
+
+  rows-settle :
+      (marks : List ℕ) (n : ℕ) → (foundRows rules literals state marks n ≡ marks) ⊎ (unmarked (foundRows rules literals state marks n) < unmarked marks)
+  unfolding foundRows
+  rows-settle marks zero = inl refl
+  rows-settle marks (suc n) = step (rows-settle marks n) (row-settles (foundRows rules literals state marks n) n)
+    where
+      earlier : List ℕ
+      earlier = foundRows rules literals state marks n
+
+      step :
+          (earlier ≡ marks) ⊎ (unmarked earlier < unmarked marks) →
+          (foundRow rules literals state earlier n ≡ earlier) ⊎ (unmarked (foundRow rules literals state earlier n) < unmarked earlier) →
+          (foundRow rules literals state earlier n ≡ marks) ⊎ (unmarked (foundRow rules literals state earlier n) < unmarked marks)
+      step (inl e) (inl e′) = inl (e′ ∙ e)
+      step (inl e) (inr l′) = inr (omega (arith, ap unmarked e))
+      step (inr l) (inl e′) = inr (omega (arith, ap unmarked e′))
+      step (inr l) (inr l′) = inr (omega arith)
+
+  -- A pass changes nothing, or leaves fewer unmarked.
+  pub pass-settles :
+      (marks : List ℕ) → (foundPass rules literals state marks ≡ marks) ⊎ (unmarked (foundPass rules literals state marks) < unmarked marks)
+  unfolding foundPass
+  pass-settles marks = rows-settle marks (ruleCount rules)
+
+-- The pass over the rows has come to n and marked so many.
+pub record PassedTo (rules literals state before : List ℕ) (n : ℕ) (marks : List ℕ) (marked : ℕ) : Type 0 where
+  pub is : marks ≡ foundRows rules literals state before n
+  pub fewer : marked + unmarked marks ≡ unmarked before
+  pub long : length marks ≡ length before
+
+module _ {rules literals state before : List ℕ} where
+  pub passed-start : PassedTo rules literals state before 0 before 0
+  unfolding foundRows
+  passed-start = record { is = refl; fewer = omega arith; long = refl }
+
+  pub passed-turn :
+      (n marked more : ℕ) (marks after : List ℕ) → after ≡ foundRow rules literals state marks n → more + unmarked after ≡ unmarked marks →
+      length after ≡ length marks → PassedTo rules literals state before n marks marked → PassedTo rules literals state before (n + 1) after (marked + more)
+  unfolding foundRows
+  passed-turn n marked more marks after e few long p =
+      record { is = rw add-one (e ∙ ap (λ (m : List ℕ). foundRow rules literals state m n) (p .is)); fewer = omega arith; long = long ∙ p .long }
+
+  pub passed-end :
+      {n : ℕ} (marks : List ℕ) (marked : ℕ) → n ≡ ruleCount rules → PassedTo rules literals state before n marks marked →
+      Passed rules literals state before marks marked
+  unfolding foundPass
+  passed-end marks marked e p = record { is = rw e at (p .is); fewer = p .fewer }
+
+-- ── Repeat until nothing changes ──
+
+-- So many further turns as w may still need lead from w to the goal.
+pub record Reaches {A : Type 0} (measure : A → ℕ) (f : A → A) (goal w : A) : Type 0 where
+  pub fuel : ℕ
+  pub enough : measure w ≤ fuel
+  pub meets : goal ≡ iterate fuel f w
+
+module _ {A : Type 0} where
+  -- The first turn first.
+  iterate-shift : (f : A → A) (x : A) (n : ℕ) → iterate (suc n) f x ≡ iterate n f (f x)
+  unfolding iterate
+  iterate-shift f x zero = refl
+  iterate-shift f x (suc n) = ap f (iterate-shift f x n)
+
+  pub reaches-start : (measure : A → ℕ) (f : A → A) (n : ℕ) (w : A) → measure w ≤ n → Reaches measure f (iterate n f w) w
+  reaches-start measure f n w h = record { fuel = n; enough = h; meets = refl }
+
+  pub reaches-turn :
+      (measure : A → ℕ) (f : A → A) (goal w : A) → (f w ≡ w) ⊎ (measure (f w) < measure w) → Reaches measure f goal w → Reaches measure f goal (f w)
+  reaches-turn measure f goal w (inl e) r = subst (Reaches measure f goal) (sym e) r
+  reaches-turn measure f goal w (inr l) r = step (r .fuel) (r .enough) (r .meets)
+    where
+      step : (n : ℕ) → measure w ≤ n → goal ≡ iterate n f w → Reaches measure f goal (f w)
+      step zero h e = absurd (omega arith)
+      step (suc n) h e = record { fuel = n; enough = omega arith; meets = e ∙ iterate-shift f w n }
+
+  pub reaches-done : (measure : A → ℕ) (f : A → A) (goal w : A) → f w ≡ w → Reaches measure f goal w → w ≡ goal
+  unfolding iterate
+  reaches-done measure f goal w e r =
+      sym (r .meets ∙ subst (λ (n : ℕ). iterate n f w ≡ w) (zero-plus (r .fuel)) (iterate-fixed f w zero e (r .fuel)))
+    where
+      zero-plus : (n : ℕ) → zero + n ≡ n
+      zero-plus n = omega arith
+
+-- ── Passes until one marks nothing ──
+
+-- Passes have led to the marks, the last of which marked so many: further ones lead to the goal, and where it marked none they change nothing.
+pub record Founding (rules literals state goal marks : List ℕ) (marked : ℕ) : Type 0 where
+  pub reaches : Reaches unmarked (foundPass rules literals state) goal marks
+  pub settled : marked ≡ 0 → foundPass rules literals state marks ≡ marks
+
+-- What the marks lead to that stand before the first pass.
+unfoldable pub foundFrom : List ℕ → List ℕ → List ℕ → List ℕ → List ℕ
+foundFrom rules literals state marks = iterate (length marks) (foundPass rules literals state) marks
+
+pub found-from :
+    (rules literals defined state before marks : List ℕ) → length marks ≡ length before → marks ≡ foundStart defined state before →
+    foundFrom rules literals state marks ≡ foundAll rules literals defined state before
+unfolding foundFrom foundAll
+found-from rules literals defined state before marks long is = rw (long, is)
+
+module _ {rules literals state : List ℕ} where
+  pub founding-start : (marks : List ℕ) → Founding rules literals state (foundFrom rules literals state marks) marks 1
+  unfolding foundFrom
+  founding-start marks = record { reaches = reaches-start _ _ _ _ (unmarked-le marks); settled = λ e. absurd (omega arith) }
+
+  pub founding-turn :
+      {goal marks after : List ℕ} {marked more : ℕ} → Passed rules literals state marks after more → Founding rules literals state goal marks marked →
+      Founding rules literals state goal after more
+  founding-turn {goal} {marks} {after} {marked} {more} p f =
+      record {
+        reaches = rw (p .is) (reaches-turn unmarked (foundPass rules literals state) goal marks (pass-settles rules literals state marks) (f .reaches));
+        settled = λ none. stays (λ l. omega (arith, ap unmarked (p .is))) (pass-settles rules literals state marks);
+      }
+    where
+      stays :
+          (unmarked (foundPass rules literals state marks) < unmarked marks → ⊥) →
+          (foundPass rules literals state marks ≡ marks) ⊎ (unmarked (foundPass rules literals state marks) < unmarked marks) →
+          foundPass rules literals state after ≡ after
+      stays never (inl e) = let same : after ≡ marks = p .is ∙ e in rw same e
+      stays never (inr l) = absurd (never l)
+
+  pub founding-end : {goal marks : List ℕ} {marked : ℕ} → marked ≡ 0 → Founding rules literals state goal marks marked → marks ≡ goal
+  founding-end {goal} {marks} none f = reaches-done unmarked (foundPass rules literals state) goal marks (f .settled none) (f .reaches)

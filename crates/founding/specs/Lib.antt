@@ -1,0 +1,2 @@
+-- Founded atoms, as code marks them.
+pub mod Founding

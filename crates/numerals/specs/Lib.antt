@@ -1,0 +1,3 @@
+-- Numbers in a text: the class of a byte, and numbers at an offset.
+pub mod Bytes
+pub mod Offsets

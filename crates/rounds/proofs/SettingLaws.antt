@@ -1,0 +1,92 @@
+-- Laws of the setting: its fault as the code tests it, the values it starts from, and the atoms that occur negated.
+-- Assumes nothing.
+use Prim.Native.Nat.{ℕ, zero, suc, _<_}
+use mathlib.Core.Path.{_≡_, refl, sym, ap}
+use mathlib.Core.Logic.{_⊎_, inl, inr}
+use mathlib.Core.Bool.{Bool, true, not, cond, _&&_}
+use mathlib.Core.List.{List, [], _∷_, List·Memᴰ, List·Memᴰ·head, List·Memᴰ·tail, List·Memᴰ·not-nil, List·Memᴰ·cases-cons}
+use native.Mathlib.Nat.{le-of-suc-le-suc, not-suc-le-zero}
+use native.Mathlib.Omega.{arith}
+use lib.Dec.{eqb, ltb}
+use lib.ListN.{length, getD, replicate}
+use borrow.Author.Tests.{ne-eqb, lt-ltb}
+use Rattle.wellfounded.specs.Lists.{anyBelow, tabulate}
+use Rattle.wellfounded.specs.Literals.{isHeld, valueAt, atomOf, isNegated}
+use Rattle.wellfounded.proofs.Tests.{both, first, second, same-test}
+use Rattle.wellfounded.proofs.Lists.{any-use, any-make, anyBelow-use, anyBelow-make}
+use Rattle.tables.specs.Marks.{isMarked}
+use Rattle.rounds.specs.Rounds.{badStart, occursNegated}
+use Rattle.wellfounded.proofs.Literals.{value-at}
+
+above-zero : (v : ℕ) → not (eqb v 0) ≡ ltb 0 v
+above-zero zero = refl
+above-zero (suc v) = rw (ne-eqb (suc v) 0 (λ e. omega arith), lt-ltb 0 (suc v) (omega arith))
+
+above-one : (v : ℕ) → not (isHeld v) ≡ ltb 1 v
+unfolding isHeld
+above-one zero = refl
+above-one (suc zero) = refl
+above-one (suc (suc v)) = sym (lt-ltb 1 (suc (suc v)) (omega arith))
+
+-- The value of stage 0.
+abbrev pub startAt : List ℕ → List ℕ → ℕ → ℕ
+startAt defined setting atom = cond (isMarked defined atom) 2 (valueAt setting atom)
+
+module _ (defined setting : List ℕ) (atom : ℕ) where
+  -- The fault of a defined atom and of an open one, by the most that its value may be.
+  module _ (most : ℕ) (within : atom < length setting) where
+    pub bad-defined : most ≡ 0 → getD defined atom 0 ≡ 1 → badStart defined setting atom ≡ ltb most (getD setting atom 0)
+    unfolding badStart isMarked
+    bad-defined e marked = rw (e, marked, value-at setting atom within) (above-zero (getD setting atom 0))
+
+    pub bad-open : most ≡ 1 → (getD defined atom 0 ≡ 1 → ⊥) → badStart defined setting atom ≡ ltb most (getD setting atom 0)
+    unfolding badStart isMarked
+    bad-open e unmarked = rw (e, ne-eqb _ _ unmarked, value-at setting atom within) (above-one (getD setting atom 0))
+
+  pub start-defined : getD defined atom 0 ≡ 1 → 2 ≡ startAt defined setting atom
+  unfolding isMarked
+  start-defined marked = rw marked
+
+  pub start-open : atom < length setting → (getD defined atom 0 ≡ 1 → ⊥) → getD setting atom 0 ≡ startAt defined setting atom
+  unfolding isMarked
+  start-open within unmarked = rw (ne-eqb _ _ unmarked, value-at setting atom within)
+
+pub zeros : (n : ℕ) → tabulate {A = ℕ} n (λ k. 0) ≡ replicate n 0
+unfolding tabulate
+zeros zero = refl
+zeros (suc n) = ap (λ (l : List ℕ). 0 ∷ l) (zeros n)
+
+-- The members of a list are its entries.
+module _ {A : Type 0} (z : A) where
+  pub entry-member : (xs : List A) (k : ℕ) → k < length xs → List·Memᴰ (getD xs k z) xs
+  entry-member [] k l = absurd (not-suc-le-zero l)
+  entry-member (x ∷ xs) zero l = List·Memᴰ·head refl
+  entry-member (x ∷ xs) (suc k) l = List·Memᴰ·tail (entry-member xs k (le-of-suc-le-suc l))
+
+  pub member-entry : (xs : List A) {x : A} → List·Memᴰ x xs → (k : ℕ) × (k < length xs) × (x ≡ getD xs k z)
+  member-entry [] m = absurd (List·Memᴰ·not-nil m)
+  member-entry (y ∷ ys) {x} m = step (λ there. member-entry ys there) (List·Memᴰ·cases-cons m)
+    where
+      step :
+          (List·Memᴰ x ys → (k : ℕ) × (k < length ys) × (x ≡ getD ys k z)) → (x ≡ y) ⊎ List·Memᴰ x ys →
+          (k : ℕ) × (k < suc (length ys)) × (x ≡ getD (y ∷ ys) k z)
+      step later (inl e) = (zero, omega arith, e)
+      step later (inr there) = let found = later there in (suc (found .0), omega (arith, found .1), found .2)
+
+-- An atom occurs negated if it does at some place of the table.
+pub negated-places :
+    (literals : List ℕ) (atom : ℕ) →
+    anyBelow (length literals) (λ place. eqb (atomOf (getD literals place 0)) atom && isNegated (getD literals place 0)) ≡ occursNegated literals atom
+unfolding occursNegated
+negated-places literals atom =
+    same-test _ _
+    (λ t.
+    let found = anyBelow-use (length literals) _ t in
+    any-make _ literals (entry-member 0 literals (found .0) (found .1)) (swapped (eqb (atomOf (getD literals (found .0) 0)) atom) (isNegated (getD literals (found .0) 0)) (found .2)))
+    (λ t.
+    let found = any-use _ literals t in
+    let entry = member-entry 0 literals (found .1) in
+    anyBelow-make (length literals) _ (entry .0) (entry .1) (rw (← entry .2) (swapped (isNegated (found .0)) (eqb (atomOf (found .0)) atom) (found .2))))
+  where
+    swapped : (a b : Bool) → (a && b) ≡ true → (b && a) ≡ true
+    swapped a b t = both b a (second a b t) (first a b t)

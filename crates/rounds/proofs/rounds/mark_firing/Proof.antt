@@ -1,0 +1,81 @@
+-- `rounds::rounds::mark_firing` meets its contract: the marks are those of the entry with the atoms that the rows passed make true put on.
+-- Assumes nothing.
+use Prim.Native.Nat.{_-_, _≤_}
+use mathlib.Core.Path.{sym, _∙_}
+use mathlib.Core.Bool.{_&&_}
+use mathlib.Core.Logic.{⊎-elim}
+use native.Mathlib.Omega.{arith}
+use lib.Dec.{eqb}
+use borrow.Author.Needs.{needs}
+use Rattle.tables.specs.Rows.{ruleHead}
+use Rattle.tables.proofs.MarkLaws.{Marked, marked-start, marked-end, row-puts, row-passes}
+use Rattle.rounds.specs.Rounds.{rowFires, firesBy}
+use Rattle.rounds.proofs.rounds.mark_firing.Statement.{statement}
+use Rattle.rounds.proofs.rounds.mark_firing.Tie as tie
+
+abbrev Inv-loop : tie.InvT-loop
+Inv-loop rules literals values firing₀ rows row₀ firing row =
+    (row ≤ rows) × Marked (λ r atom. eqb (ruleHead rules r) atom && rowFires rules literals values r) firing₀ row firing
+
+abbrev μ-loop : tie.MeasureT-loop
+μ-loop rules literals values firing₀ rows row₀ firing row = rows - row
+
+rule-count-requires : tie.Need-rule-count-requires Inv-loop μ-loop
+rule-count-requires c κs = search needs
+
+loop-holds : tie.Need-loop-holds Inv-loop μ-loop
+loop-holds c = (omega arith, marked-start _ _)
+
+row-fires-requires : tie.Need-row-fires-requires Inv-loop μ-loop
+row-fires-requires c κs = (omega arith, c .before .before .before .before .before .before .before .pre .rows)
+
+rule-head-requires : tie.Need-rule-head-requires Inv-loop μ-loop
+rule-head-requires c κs = omega arith
+
+mul-firing : tie.Need-mul-firing Inv-loop μ-loop
+mul-firing c = omega arith
+
+slice-write-firing : tie.Need-slice-write-firing Inv-loop μ-loop
+slice-write-firing c =
+    let pre = c .before .before .before .before .before .before .before .before .before .before .pre in
+    omega (arith, pre .rows .heads (c .before .before .before .before .loop .row) (omega arith))
+
+add-row : tie.Need-add-row Inv-loop μ-loop
+add-row c = omega arith
+
+loop-less : tie.Need-loop-less Inv-loop μ-loop
+loop-less c = omega arith
+
+loop-again : tie.Need-loop-again Inv-loop μ-loop
+loop-again c = (
+  omega arith,
+  ⊎-elim
+      (λ w. rw (w .2) (row-puts _ _ _ _ _ _ (w .1 .ensures .is) (sym (c .before .row-fires .ensures) ∙ w .0 .taken) (c .before .before .before .loop .inv .1)))
+      (λ w. rw (w .1) (row-passes _ _ _ _ _ (sym (c .before .row-fires .ensures) ∙ w .0 .left) (c .before .before .before .loop .inv .1)))
+      (c .if1 .came),
+)
+
+same-length : tie.Need-same-length Inv-loop μ-loop
+same-length c = c .before .loop .inv .1 .long
+
+returns : tie.Need-returns Inv-loop μ-loop
+unfolding firesBy
+returns c = marked-end _ _ _ _ _ (omega arith) (c .before .loop .inv .1)
+
+pub mark-firing-spec : {M : Type 1} → statement M
+mark-firing-spec =
+    tie.close
+    (tie.spec
+    Inv-loop
+    μ-loop
+    rule-count-requires
+    loop-holds
+    row-fires-requires
+    rule-head-requires
+    mul-firing
+    slice-write-firing
+    add-row
+    loop-less
+    loop-again
+    same-length
+    returns)

@@ -1,0 +1,2 @@
+-- The steps of a round, and rounds until nothing changes.
+pub mod Rounds

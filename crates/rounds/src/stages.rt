@@ -1,0 +1,88 @@
+// Rounds until nothing changes: from stage 0 to the well-founded model.
+ghost use mathlib.Core.Path.{_≡_};
+ghost use Prim.Native.Nat.{ℕ, suc};
+ghost use mathlib.Core.List.{List};
+ghost use Rattle.rounds.specs.Rounds.{AtStage, RoundDone, RoundsDone, Roomy, Started};
+use super::rounds::changes;
+use super::rounds::mark_firing;
+use super::rounds::set_levels;
+use super::rounds::set_values;
+use super::setting::clear;
+use super::setting::mark_negated;
+use super::setting::start_values;
+use founding::mark_founded;
+
+// One round: marks what fires, then decides it together with what is not founded, at the level. Answers whether anything
+// changed. The founded marks are made anew only if an atom became true that occurs negated: otherwise they still hold.
+fn round(
+    level: u16,
+    rules: &[u16],
+    literals: &[u16],
+    defined: &[u8],
+    negated: &[u8],
+    founded: &mut [u8],
+    values: &mut [u8],
+    levels: &mut [u16],
+    work: &mut [u16],
+) -> bool
+    requires { ⌜ Roomy (now rules) (now literals) (now defined) (now negated) (now founded) (now values) (now levels) (now work) ⌝ }
+    ensures { λ r. ⌜ ((setting : List ℕ) (k : ℕ) →
+        AtStage (now (rules .entry)) (now (literals .entry)) setting k (now (defined .entry)) (now (negated .entry))
+        (now (founded .entry)) (now (values .entry)) (now (levels .entry)) (now (work .entry)) →
+        suc k ≡ level →
+        RoundDone (now (rules .entry)) (now (literals .entry)) setting k (now (defined .entry)) (now (negated .entry))
+        (now (founded .exit)) (now (values .exit)) (now (levels .exit)) (now (work .exit)) r) ⌝ }
+{
+    mark_firing(rules, literals, values, work);
+    let changed = changes(values, work, founded, negated);
+    let decided = changed.decided;
+    if decided == 0 {
+        clear(work);
+        return false;
+    }
+    set_levels(level, values, work, founded, levels);
+    set_values(work, founded, values);
+    clear(work);
+    let renewed = changed.renewed;
+    if renewed {
+        mark_founded(rules, literals, defined, values, founded);
+    }
+    true
+}
+
+// Evaluates a sound book at a setting: values become the model, levels the stages, work all 0. Answers the rounds.
+pub fn evaluate_stages(
+    rules: &[u16],
+    literals: &[u16],
+    defined: &[u8],
+    setting: &[u8],
+    values: &mut [u8],
+    levels: &mut [u16],
+    work: &mut [u16],
+) -> usize
+    requires { ⌜ Started (now rules) (now literals) (now defined) (now setting) (now values) (now levels) (now work) ⌝ }
+    ensures { λ r. ⌜ RoundsDone (now (rules .entry)) (now (literals .entry)) (now (setting .entry)) (now (values .exit)) (now (levels .exit)) (now (work .exit)) r ⌝ }
+{
+    start_values(defined, setting, values);
+    clear(levels);
+    clear(work);
+    let mut negated = [0u8; 1024];
+    mark_negated(literals, &mut negated);
+    let mut founded = [0u8; 1024];
+    mark_founded(rules, literals, defined, values, &mut founded);
+    let mut rounds: usize = 0;
+    while round(
+        (rounds + 1) as u16,
+        rules,
+        literals,
+        defined,
+        &negated,
+        &mut founded,
+        values,
+        levels,
+        work,
+    ) {
+        rounds += 1;
+    }
+    rounds
+}

@@ -1,0 +1,4 @@
+-- Laws of tenths, clauses and load lines.
+pub mod Tenths
+pub mod LoadLaws
+pub mod Satisfied
