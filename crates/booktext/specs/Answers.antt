@@ -1,7 +1,7 @@
 -- What the reader answers, and what it leaves in the lent tables.
 use Prim.Native.Nat.{ℕ}
 use mathlib.Core.Path.{_≡_}
-use mathlib.Core.Bool.{cond}
+use mathlib.Core.Bool.{true, cond}
 use mathlib.Core.List.{List}
 use lib.Dec.{eqb}
 use lib.ListN.{length}
@@ -13,6 +13,7 @@ use Rattle.judging.specs.declared.reached.Judged.the-variants.{Passed, Failed}
 use Rattle.judging.specs.Judging.{judgeText, formsOf}
 use Rattle.judging.specs.States.{openStood, claimStood}
 use Rattle.forms.specs.Entries.{Contents, bookEntries, filled}
+use Rattle.lines.specs.Walks.{passes}
 use Rattle.booktext.specs.declared.StateForm.{StateForm}
 use Rattle.booktext.specs.declared.StateForm.the-variants.{NoState, OpenState, ClaimState}
 use Rattle.booktext.specs.declared.Book.{Book}
@@ -65,3 +66,8 @@ contentsAfter (Failed fault at) forms held = held
 pub record Reads (text : List ℕ) (before : Contents) (answer : Book) (afterwards : Contents) : Type 0 where
   pub answered : answer ≡ answerOf (judgeText (spaceOf before) text)
   pub written : afterwards ≡ contentsAfter (judgeText (spaceOf before) text) (formsOf text) before
+
+-- What `read_once` promises: the same answer, and of an accepted text the same tables. What a refused text leaves in them is not said.
+pub record ReadsOnce (text : List ℕ) (before : Contents) (answer : Book) (afterwards : Contents) : Type 0 where
+  pub answered : answer ≡ answerOf (judgeText (spaceOf before) text)
+  pub written : passes (judgeText (spaceOf before) text) ≡ true → afterwards ≡ filled (bookEntries (formsOf text)) before

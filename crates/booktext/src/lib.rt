@@ -2,7 +2,7 @@
 ghost use mathlib.Core.Path.{_≡_};
 ghost use Rattle.judging.specs.declared.reached.Judged.the-variants.{Failed};
 ghost use Rattle.forms.specs.Entries.{lentTables};
-ghost use Rattle.booktext.specs.Answers.{stateNumber, stateOf, answerOf, Reads};
+ghost use Rattle.booktext.specs.Answers.{stateNumber, stateOf, answerOf, Reads, ReadsOnce};
 use judging::reached::CLAIM_STOOD;
 use judging::reached::Judged;
 use judging::reached::OPEN_STOOD;
@@ -93,8 +93,53 @@ fn answer_of(judged: Judged) -> Book
     }
 }
 
+// Reads a book into tables whose content is of no worth, as those that a call holds inside: the text is walked once.
+pub fn read_once(
+    text: &[u8],
+    rules: &mut [u16],
+    literals: &mut [u16],
+    clauses: &mut [u16],
+    loads: &mut [i32],
+    load_literals: &mut [u16],
+    minutes: &mut [i16],
+    values: &mut [u8],
+    levels: &mut [u16],
+) -> Book
+    ensures { λ r. ⌜ ReadsOnce (now (text .entry))
+        (lentTables (now (rules .entry)) (now (literals .entry)) (now (clauses .entry)) (now (loads .entry)) (now («load_literals» .entry))
+        (now (minutes .entry)) (now (values .entry)) (now (levels .entry))) r
+        (lentTables (now (rules .exit)) (now (literals .exit)) (now (clauses .exit)) (now (loads .exit)) (now («load_literals» .exit))
+        (now (minutes .exit)) (now (values .exit)) (now (levels .exit))) ⌝ }
+{
+    if MAX_BYTES < text.len() {
+        return refused_book(Fault::OutsideLimits, 0);
+    }
+    let space = Space {
+        rules: rules.len(),
+        literals: literals.len(),
+        clauses: clauses.len(),
+        loads: loads.len(),
+        load_literals: load_literals.len(),
+        minutes: minutes.len(),
+        values: values.len(),
+        levels: levels.len(),
+    };
+    answer_of(walk(
+        text,
+        space,
+        rules,
+        literals,
+        clauses,
+        loads,
+        load_literals,
+        minutes,
+        values,
+        levels,
+    ))
+}
+
 // Reads a book from its text. The tables of an accepted text hold its entries, and beyond them what they held; a refused
-// text writes nothing.
+// text writes nothing, so it is judged before anything is written.
 pub fn read(
     text: &[u8],
     rules: &mut [u16],
@@ -128,9 +173,8 @@ pub fn read(
     if let Judged::Failed(fault, position) = judge(text, space) {
         return refused_book(fault, position);
     }
-    answer_of(walk(
+    read_once(
         text,
-        space,
         rules,
         literals,
         clauses,
@@ -139,5 +183,5 @@ pub fn read(
         minutes,
         values,
         levels,
-    ))
+    )
 }

@@ -1,5 +1,7 @@
 // Numbers in the text of a book: reading one yields the number and the next offset, or a refusal.
-use crate::bytes;
+use crate::bytes::Class;
+use crate::bytes::class_of;
+use crate::bytes::is_digit;
 use crate::reader::Reader;
 ghost use mathlib.Core.Path.{_≡_};
 ghost use mathlib.Core.Bool.{true};
@@ -35,7 +37,7 @@ fn digit_at(text: &[u8], at: usize) -> bool
     ensures { λ r. ⌜ r ≡ digitAt (now (text .entry)) at ⌝ }
 {
     if at < text.len() {
-        bytes::is_digit(text[at])
+        is_digit(text[at])
     } else {
         false
     }
@@ -50,7 +52,7 @@ fn digits_from(text: &[u8], at: usize, value: usize) -> Number
     let mut total = value;
     while next < text.len() {
         let byte = text[next];
-        if !bytes::is_digit(byte) {
+        if !is_digit(byte) {
             return Number::Read(total, next);
         }
         total = grown(total, byte);
@@ -59,7 +61,7 @@ fn digits_from(text: &[u8], at: usize, value: usize) -> Number
     Number::Read(total, next)
 }
 
-// The number at an offset: one digit at least, and a zero that begins it stands alone.
+// The number at an offset: its first byte is of the digits' class, and a zero that begins it stands alone.
 pub(crate) fn number_from(text: &[u8], at: usize) -> Number
     ensures { λ r. ⌜ r ≡ numberAt (now (text .entry)) at ⌝ }
 {
@@ -67,9 +69,9 @@ pub(crate) fn number_from(text: &[u8], at: usize) -> Number
         return Number::Refused;
     }
     let first = text[at];
-    if !bytes::is_digit(first) {
+    let Class::Digit = class_of(first) else {
         return Number::Refused;
-    }
+    };
     let next = at + 1;
     if first == b'0' {
         if digit_at(text, next) {

@@ -42,7 +42,8 @@ use Rattle.forms.specs.Entries.{Contents, bookEntries, over, filled}
 use Rattle.booktext.specs.declared.StateForm.{StateForm}
 use Rattle.booktext.specs.declared.StateForm.the-variants.{NoState, OpenState, ClaimState}
 use Rattle.booktext.specs.declared.Book.{Book}
-use Rattle.booktext.specs.Answers.{spaceOf, stateOf, answerOf, contentsAfter, Reads}
+use Rattle.lines.specs.Walks.{passes as walk-passes}
+use Rattle.booktext.specs.Answers.{spaceOf, stateOf, answerOf, ReadsOnce}
 use Rattle.booktext.proofs.Filling.{Counts, Stood, used-counts, used-stood}
 use Rattle.outcome.specs.Outcomes.{fullSpace, verdictAlone, unlessStopped, evaluationOutcome, tablesOf, usedParts, bookOutcome}
 use Rattle.outcome.specs.Outcomes.{answerOutcome, outcomeOf, modelFault, isMade, Comes, Roomy, FitsBook}
@@ -286,11 +287,11 @@ failed-read text before fault at e =
     }
 
 pub text-read :
-    (text : List ℕ) (before : Contents) (book : Book) (afterwards : Contents) → spaceOf before ≡ fullSpace → Reads text before book afterwards →
+    (text : List ℕ) (before : Contents) (book : Book) (afterwards : Contents) → spaceOf before ≡ fullSpace → ReadsOnce text before book afterwards →
     Read text book afterwards
-unfolding contentsAfter
-text-read text before book afterwards full r = rw (r .answered, r .written, full) (step (judgeText fullSpace text) refl)
+unfolding walk-passes
+text-read text before book afterwards full r = step (judgeText fullSpace text) refl
   where
-    step : (j : Judged) → judgeText fullSpace text ≡ j → Read text (answerOf j) (contentsAfter j (formsOf text) before)
-    step (Passed s) e = passed-read text before s full e
-    step (Failed fault at) e = failed-read text before fault at e
+    step : (j : Judged) → judgeText fullSpace text ≡ j → Read text book afterwards
+    step (Passed s) e = rw (r .answered, r .written (rw (full, e) refl), full, e) (passed-read text before s full e)
+    step (Failed fault at) e = rw (r .answered, full, e) (failed-read text afterwards fault at e)

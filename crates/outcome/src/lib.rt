@@ -8,7 +8,7 @@ ghost use Rattle.forms.specs.Entries.{lentTables};
 ghost use Rattle.outcome.specs.Outcomes.{isMade, evaluationOutcome, bookOutcome, outcomeOf, usedParts, Comes, Roomy, FitsBook};
 use booktext::Book;
 use booktext::StateForm;
-use booktext::read;
+use booktext::read_once;
 use checker::check;
 use evaluator::evaluate;
 use tables::Fault;
@@ -161,7 +161,7 @@ fn book_outcome(
     }
 }
 
-// What a text comes to. The tables of full size are held inside the call.
+// What a text comes to. The tables of full size are held inside the call, so the text is walked once.
 pub fn outcome_of(text: &[u8], values: &mut [u8], levels: &mut [u16]) -> Outcome
     requires { ⌜ Roomy (now values) (now levels) ⌝ }
     ensures { λ r. ⌜ Comes (outcomeOf (now (text .entry)))
@@ -175,7 +175,7 @@ pub fn outcome_of(text: &[u8], values: &mut [u8], levels: &mut [u16]) -> Outcome
     let mut minutes = [0i16; 4096];
     let mut given = [0u8; 1024];
     let mut given_levels = [0u16; 1024];
-    let book = read(
+    let book = read_once(
         text,
         &mut rules,
         &mut literals,

@@ -1,4 +1,4 @@
--- `booktext::read` meets its contract: a text is judged first, and the walk fills the tables of one that passes.
+-- `booktext::read` meets its contract: a text is judged first, and one that passes is read.
 -- Assumes nothing.
 use borrow.Author.Needs.{needs}
 use Rattle.forms.specs.Entries.{lentTables}
@@ -7,11 +7,11 @@ use Rattle.booktext.proofs.ReadLaws.{read-long, read-refused, read-fill
 use Rattle.booktext.proofs.read.Statement.{statement}
 use Rattle.booktext.proofs.read.Tie as tie
 
--- The walk was made, and before it the text was judged well.
-abbrev walked : tie.After-answer-of → tie.After-walk
-walked c = c .before .before .before .before .before .before .before .before .before .before .before .before .before .before .before
+-- The text was read, and before it judged well.
+abbrev was-read : tie.After-slice-known12 → tie.After-read-once
+was-read c = c .before .before .before .before .before .before .before .before .before .before .before .before .before .before
 
-abbrev passed : tie.After-walk → tie.After-enum-told
+abbrev passed : tie.After-read-once → tie.After-enum-told
 passed c = c .before .before .before .before .before .before .before .before .before
 
 refused-book-requires : tie.Need-refused-book-requires
@@ -38,11 +38,8 @@ returns-2 c =
 enum-told : tie.Need-enum-told
 enum-told c = search needs
 
-walk-requires : tie.Need-walk-requires
-walk-requires c κs = search needs
-
-answer-of-requires : tie.Need-answer-of-requires
-answer-of-requires c κs = search needs
+read-once-requires : tie.Need-read-once-requires
+read-once-requires c κs = search needs
 
 same-length : tie.Need-same-length
 same-length c = search needs
@@ -71,9 +68,9 @@ same-length-8 c = search needs
 returns-3 : tie.Need-returns-3
 unfolding spaceOf lentTables
 returns-3 c =
-    let judged = passed (walked c) in
-    read-filled _ _ (judged .before .before .before .if1 .left) _ _ _ _ _ (judged .before .before .judge .ensures) (judged .enum-told .given .1)
-    (walked c .walk .ensures) (c .answer-of .ensures)
+    let judged = passed (was-read c) in
+    read-filled _ _ (judged .before .before .before .if1 .left) _ _ _ _ (judged .before .before .judge .ensures) (judged .enum-told .given .1)
+    (was-read c .read-once .ensures)
 
 pub read-spec : {M : Type 1} → statement M
 read-spec =
@@ -86,8 +83,7 @@ read-spec =
     refused-book-requires-2
     returns-2
     enum-told
-    walk-requires
-    answer-of-requires
+    read-once-requires
     same-length
     same-length-2
     same-length-3
