@@ -1,2 +1,3 @@
--- From the rounds to the evaluator's answer.
+-- From the rounds to the evaluator's answer, and what its verdict tells.
 pub mod Evaluating
+pub mod MadeLaws

@@ -1,14 +1,16 @@
 -- What the evaluator (the paper's maker) answers and leaves in each slice.
 use Prim.Native.Nat.{ℕ, _≤_}
 use mathlib.Core.Path.{_≡_}
-use mathlib.Core.Bool.{Bool, not, cond}
+use mathlib.Core.Bool.{Bool, true, false, not, cond}
 use mathlib.Core.List.{List, [], _∷_, _++_}
 use lib.Dec.{eqb}
 use lib.ListN.{length, replicate}
 use Rattle.wellfounded.specs.Literals.{isHeld, valueAt}
 use Rattle.wellfounded.specs.Definitions.{Definition, isDefined}
 use Rattle.wellfounded.specs.Stages.{closure, wellFoundedModel, stagesOf}
-use Rattle.tables.specs.declared.Fault.the-variants.{Value, Undecided}
+use Rattle.tables.specs.declared.Fault.{Fault}
+use Rattle.tables.specs.declared.Fault.the-variants.{Malformed, OutsideLimits, OutOfOrder, NoSpace, TableSizes, RuleRow, ClauseRow, LoadRow}
+use Rattle.tables.specs.declared.Fault.the-variants.{Literal, LoadTerm, SliceLength, Value, Level, Unsupported, Unblocked, Undecided, FailingClause, FailingLoad}
 use Rattle.tables.specs.declared.Verdict.{Verdict}
 use Rattle.tables.specs.declared.Verdict.the-variants.{Accepted, Refused}
 use Rattle.tables.specs.Faults.{Test, firstFault}
@@ -36,6 +38,32 @@ refusalTests t setting lengths = tableTests t ++ (sliceTest (t .atoms) lengths �
 -- The faults of the model that it has made.
 unfoldable pub modelTests : Tables → List ℕ → List Test
 modelTests t model = undecidedTest (t .atoms) model ∷ satisfactionTests t model
+
+-- The faults of a model: an atom left undecided, a failing clause, a failing load line.
+unfoldable pub modelFault : Fault → Bool
+modelFault Malformed = false
+modelFault OutsideLimits = false
+modelFault OutOfOrder = false
+modelFault NoSpace = false
+modelFault TableSizes = false
+modelFault RuleRow = false
+modelFault ClauseRow = false
+modelFault LoadRow = false
+modelFault Literal = false
+modelFault LoadTerm = false
+modelFault SliceLength = false
+modelFault Value = false
+modelFault Level = false
+modelFault Unsupported = false
+modelFault Unblocked = false
+modelFault Undecided = true
+modelFault FailingClause = true
+modelFault FailingLoad = true
+
+-- Whether an evaluation was made: it was accepted, or refused for its model.
+unfoldable pub isMade : Verdict → Bool
+isMade Accepted = true
+isMade (Refused fault position) = modelFault fault
 
 -- The answer, and what values, levels and work hold afterwards.
 pub record Evaluation : Type 0 where

@@ -1,19 +1,18 @@
 -- What the maker answers and leaves, with the proofs of `Theorems`.
 -- Assumes nothing.
 use Prim.Native.Nat.{ℕ, _<_}
-use mathlib.Core.Path.{_≡_, refl, sym, ap, subst, _∙_}
+use mathlib.Core.Path.{_≡_, refl, sym, ap, _∙_}
 use mathlib.Core.Logic.{_↔_, _⊎_, ⊎-elim}
-use mathlib.Core.Bool.{Bool, true, false, not}
-use mathlib.Core.List.{List, [], _∷_, _++_, List·Memᴰ, List·Memᴰ·head, List·Memᴰ·tail, Memᴰ·append-right}
-use native.Mathlib.Omega.{arith}
-use borrow.Author.Tests.{ltb-true, eq-eqb, not-false, not-true}
+use mathlib.Core.Bool.{true, false, not, false≢true}
+use mathlib.Core.List.{List, [], _∷_, _++_, List·Memᴰ, List·Memᴰ·head, List·Memᴰ·tail}
+use borrow.Author.Tests.{eq-eqb, not-false, not-true}
 use lib.Dec.{ltb}
 use lib.ListN.{length}
 use Rattle.wellfounded.specs.Lists.{all}
 use Rattle.wellfounded.specs.Literals.{isHeld, valueAt}
 use Rattle.wellfounded.specs.Stages.{wellFoundedModel, stagesOf}
-use Rattle.wellfounded.proofs.Tests.{not-both, cond-true, cond-false}
-use Rattle.wellfounded.proofs.Lists.{all-use, length-tabulate}
+use Rattle.wellfounded.proofs.Tests.{clash, not-both, cond-true, cond-false}
+use Rattle.wellfounded.proofs.Lists.{length-tabulate}
 use Rattle.wellfounded.proofs.Definitions.{defined-or-open, defined-not-open}
 use Rattle.wellfounded.proofs.Closure.{model-length}
 use Rattle.wellfounded.proofs.Theorems.{complete}
@@ -23,41 +22,27 @@ use Rattle.tables.specs.declared.Fault.{Fault}
 use Rattle.tables.specs.declared.Fault.the-variants.{Undecided}
 use Rattle.tables.specs.declared.Verdict.{Verdict}
 use Rattle.tables.specs.declared.Verdict.the-variants.{Accepted, Refused}
-use Rattle.tables.specs.Faults.{Test, Absent, firstFault, lowest, numberOf, faultNumber, RefusedBy}
+use Rattle.tables.specs.Faults.{Test, Absent, firstFault, lowest, numberOf, faultNumber}
 use Rattle.tables.specs.Rows.{definitionOf}
 use Rattle.tables.specs.Sound.{Tables, bookOf, tableTests, sliceTest, Sound}
 use Rattle.satisfaction.specs.Satisfied.{clauseTest, loadTest, satisfactionTests}
-use Rattle.tables.proofs.Faults.{refused-accepted, lowest-at, lowest-found, first-passes, first-fails, absent-none, absent-more, accepted-absent, absent-accepted, refused-by, first-append, first-append-refused}
-use Rattle.tables.proofs.Numbers.{zero-accepted}
+use Rattle.tables.proofs.Faults.{lowest-at, lowest-found, first-passes, first-fails, absent-none, absent-more, accepted-absent, absent-accepted, refused-among, first-append, first-append-refused}
 use Rattle.tables.proofs.SoundTables.{slices-absent, length-none, length-more}
 use Rattle.satisfaction.proofs.Satisfied.{absent-satisfies, satisfies-absent}
 use Rattle.checker.specs.Check.{checkOf}
 use Rattle.checker.proofs.Theorems.{accepted-exactly}
 use Rattle.tables.specs.Marks.{notHeld}
-use Rattle.evaluator.specs.Evaluate.{badSetting, settingTest, undecidedTest, refusalTests, modelTests, Evaluation, evaluated, stoppedOr, evaluateOf}
+use Rattle.evaluator.specs.Evaluate.{badSetting, settingTest, undecidedTest, refusalTests, modelTests, modelFault, isMade, Evaluation, evaluated, stoppedOr, evaluateOf}
+use Rattle.evaluator.proofs.MadeLaws.{stopped-unmade, model-made}
 use Rattle.guarantees.specs.Settings.{LentSetting, stopTests, Good}
 
--- ── The faults that a list of tests can answer ──
+-- ── The model's faults ──
 
-refused-among :
-    (ok : Fault → Bool) (ts : List Test) → all (λ (x : Test). ok (x .fault)) ts ≡ true →
-    (fault : Fault) (position : ℕ) → RefusedBy ts fault position → ok fault ≡ true
-refused-among ok ts every fault position r =
-    ap ok (sym (r .isFault)) ∙ all-use (λ (x : Test). ok (x .fault)) ts every
-    (subst (List·Memᴰ (r .test)) (sym (r .place)) (Memᴰ·append-right (r .earlier) (List·Memᴰ·head refl)))
-
-module _ (t : Tables) (values : List ℕ) (fault : Fault) (position : ℕ) where
-  pub refusal-number : (lengths : List ℕ) → firstFault (refusalTests t values lengths) ≡ Refused fault position → faultNumber fault < 25
-  unfolding refusalTests tableTests sliceTest settingTest all
-  refusal-number lengths e = ltb-true _ _ (refused-among (λ f. ltb (faultNumber f) 25) (refusalTests t values lengths) refl fault position (refused-by _ fault position e))
-
-  pub model-number : firstFault (modelTests t values) ≡ Refused fault position → 24 < faultNumber fault
-  unfolding modelTests undecidedTest satisfactionTests clauseTest loadTest all
-  model-number e = ltb-true _ _ (refused-among (λ f. ltb 24 (faultNumber f)) (modelTests t values) refl fault position (refused-by _ fault position e))
-
-  satisfaction-number : firstFault (satisfactionTests t values) ≡ Refused fault position → 25 < faultNumber fault
-  unfolding satisfactionTests clauseTest loadTest all
-  satisfaction-number e = ltb-true _ _ (refused-among (λ f. ltb 25 (faultNumber f)) (satisfactionTests t values) refl fault position (refused-by _ fault position e))
+-- A failing clause or load line comes after an undecided atom.
+decided-first : (t : Tables) (values : List ℕ) (position : ℕ) → firstFault (satisfactionTests t values) ≡ Refused Undecided position → ⊥
+unfolding satisfactionTests clauseTest loadTest all
+decided-first t values position e =
+    false≢true (refused-among (λ f. ltb (faultNumber Undecided) (faultNumber f)) (satisfactionTests t values) refl Undecided position e)
 
 -- 25 at a position exactly if that is the lowest atom that the values leave undecided.
 pub undecided-at :
@@ -79,8 +64,7 @@ undecided-at t values p = (
         let low = lowest-at (notHeld values) (t .atoms) p (found ∙ ap At at) in
         (low .0, not-true _ (low .1), λ a l. not-false _ (low .2 a l))
     says Nothing found e =
-        let late = satisfaction-number t values Undecided p (sym (first-passes (undecidedTest (t .atoms) values) _ found) ∙ e) in
-        absurd (omega arith)
+        absurd (decided-first t values p (sym (first-passes (undecidedTest (t .atoms) values) _ found) ∙ e))
 
 -- ── What the maker is lent ──
 
@@ -124,30 +108,27 @@ module _ (t : Tables) (o v l w : List ℕ) where
           ap (λ (y : Evaluation). y .verdict) (refused-stopped fault position e)
           ∙ sym (first-append-refused (stopTests t o v l w) _ fault position e)
 
-  -- By its number: below 25 a test stopped it, else it made the model.
-  pub low-stopped :
-      (fault : Fault) (position : ℕ) → evaluateOf t o v l w .verdict ≡ Refused fault position → faultNumber fault < 25 →
+  -- By its verdict: a fault that is no model's stopped it, else it made the model.
+  pub stopped-by :
+      (fault : Fault) (position : ℕ) → evaluateOf t o v l w .verdict ≡ Refused fault position → modelFault fault ≡ false →
       firstFault (stopTests t o v l w) ≡ Refused fault position
-  unfolding evaluated
-  low-stopped fault position e low = step (firstFault (stopTests t o v l w)) refl
+  unfolding evaluated isMade
+  stopped-by fault position e unmade = step (firstFault (stopTests t o v l w)) refl
     where
       step : (x : Verdict) → firstFault (stopTests t o v l w) ≡ x → firstFault (stopTests t o v l w) ≡ Refused fault position
       step Accepted passed =
-          let high = model-number t (wellFoundedModel (bookOf t) o) fault position (sym (ap (λ (y : Evaluation). y .verdict) (passed-made passed)) ∙ e) in
-          absurd (omega arith)
+          let verdict = sym (ap (λ (y : Evaluation). y .verdict) (passed-made passed)) ∙ e in
+          absurd (clash (rw verdict at (model-made t (wellFoundedModel (bookOf t) o))) unmade)
       step (Refused g q) stopped = stopped ∙ sym (ap (λ (y : Evaluation). y .verdict) (refused-stopped g q stopped)) ∙ e
 
-  pub high-made :
-      (numberOf (evaluateOf t o v l w .verdict) ≡ 0) ⊎ (24 < numberOf (evaluateOf t o v l w .verdict)) → evaluateOf t o v l w ≡ evaluated t o
-  unfolding stopTests
-  high-made number = step (firstFault (stopTests t o v l w)) refl
+  pub made-by : isMade (evaluateOf t o v l w .verdict) ≡ true → evaluateOf t o v l w ≡ evaluated t o
+  unfolding stopTests isMade
+  made-by made = step (firstFault (stopTests t o v l w)) refl
     where
       step : (x : Verdict) → firstFault (stopTests t o v l w) ≡ x → evaluateOf t o v l w ≡ evaluated t o
       step Accepted passed = passed-made passed
       step (Refused fault position) stopped =
-          let is = ap (λ (y : Evaluation). numberOf (y .verdict)) (refused-stopped fault position stopped) in
-          let low = refusal-number t o fault position _ stopped in
-          absurd (⊎-elim (λ none. refused-accepted (zero-accepted (Refused fault position) (sym is ∙ none))) (λ high. omega arith) number)
+          absurd (clash (rw (refused-stopped fault position stopped) at made) (stopped-unmade t o _ fault position stopped))
 
 -- ── The model and its verdict ──
 

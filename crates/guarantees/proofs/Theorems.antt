@@ -3,10 +3,9 @@
 -- Assumes nothing.
 use Prim.Native.Nat.{ℕ, _<_}
 use mathlib.Core.Path.{_≡_, refl, sym, ap, _∙_}
-use mathlib.Core.Logic.{_↔_, _⊎_}
-use mathlib.Core.Bool.{true, false}
+use mathlib.Core.Logic.{_↔_}
+use mathlib.Core.Bool.{true, false, false≢true}
 use mathlib.Core.List.{List, [], _∷_, _++_}
-use native.Mathlib.Omega.{arith}
 use lib.ListN.{length}
 use Rattle.wellfounded.specs.Literals.{isHeld, valueAt}
 use Rattle.wellfounded.specs.Stages.{wellFoundedModel, SameSetting}
@@ -21,9 +20,9 @@ use Rattle.tables.proofs.Faults.{refused-by, by-refused}
 use Rattle.tables.proofs.Numbers.{zero-accepted, number-refused}
 use Rattle.checker.specs.Check.{checkOf}
 use Rattle.checker.proofs.Theorems
-use Rattle.evaluator.specs.Evaluate.{modelTests, Evaluation, evaluated, evaluateOf, Answers}
+use Rattle.evaluator.specs.Evaluate.{modelTests, modelFault, isMade, Evaluation, evaluated, evaluateOf, Answers}
 use Rattle.guarantees.specs.Settings.{Setting, LentSetting, stopTests, Good, Made, Unwritten, MadeAndChecked}
-use Rattle.guarantees.proofs.Making.{undecided-at, lent-passes, passed-made, refused-stopped, verdict-is, low-stopped, high-made}
+use Rattle.guarantees.proofs.Making.{undecided-at, lent-passes, passed-made, refused-stopped, verdict-is, stopped-by, made-by}
 use Rattle.guarantees.proofs.Making.{accepted-good, good-accepted, good-checked}
 
 -- ── Demand 3, of accepted claims ──
@@ -132,30 +131,30 @@ module _ (t : Tables) (o v l w : List ℕ) where
   stopped fault position e =
       rw (refused-stopped t o v l w fault position e) (refl, record { values = refl; levels = refl; work = refl; rounds = refl })
 
-  -- and a number below 25 is answered only for such a fault.
+  -- and a fault that is no model's is answered only then.
   pub maker-stops-exactly :
-      (fault : Fault) (position : ℕ) → faultNumber fault < 25 →
+      (fault : Fault) (position : ℕ) → modelFault fault ≡ false →
       ((numberOf (evaluateOf t o v l w .verdict) ≡ faultNumber fault) × (positionOf (evaluateOf t o v l w .verdict) ≡ position))
       ↔ RefusedBy (stopTests t o v l w) fault position
-  maker-stops-exactly fault position low = (
-    λ h. refused-by _ fault position (low-stopped t o v l w fault position (number-refused _ fault position (h .0) (h .1)) low),
+  maker-stops-exactly fault position unmade = (
+    λ h. refused-by _ fault position (stopped-by t o v l w fault position (number-refused _ fault position (h .0) (h .1)) unmade),
     λ r. let e = stopped fault position (by-refused _ fault position r) .0 in (ap numberOf e, ap positionOf e),
   )
 
-  -- For 0, 25, 26 and 27 the model is written with its stages,
-  pub writes : (numberOf (evaluateOf t o v l w .verdict) ≡ 0) ⊎ (24 < numberOf (evaluateOf t o v l w .verdict)) → Made t o (evaluateOf t o v l w)
+  -- Where the verdict is that of an evaluation which was made, its number is 0, 25, 26 or 27 (`made-numbers`); then the model is written
+  -- with its stages,
+  pub writes : isMade (evaluateOf t o v l w .verdict) ≡ true → Made t o (evaluateOf t o v l w)
   unfolding evaluated
-  writes number = rw (high-made t o v l w number) (record { values = refl; levels = refl; work = refl; rounds = refl })
+  writes made = rw (made-by t o v l w made) (record { values = refl; levels = refl; work = refl; rounds = refl })
 
   -- and for every other number nothing is written and rounds is 0.
-  pub leaves : 0 < numberOf (evaluateOf t o v l w .verdict) → numberOf (evaluateOf t o v l w .verdict) < 25 → Unwritten v l w (evaluateOf t o v l w)
-  leaves some low = step (evaluateOf t o v l w .verdict) refl
+  pub leaves : isMade (evaluateOf t o v l w .verdict) ≡ false → Unwritten v l w (evaluateOf t o v l w)
+  unfolding isMade
+  leaves unmade = step (evaluateOf t o v l w .verdict) refl
     where
       step : (x : Verdict) → evaluateOf t o v l w .verdict ≡ x → Unwritten v l w (evaluateOf t o v l w)
-      step Accepted e = let zero = ap numberOf e in absurd (omega arith)
-      step (Refused fault position) e =
-          let number = ap numberOf e in
-          stopped fault position (low-stopped t o v l w fault position e (omega arith)) .1
+      step Accepted e = absurd (false≢true (sym (rw e at unmade)))
+      step (Refused fault position) e = stopped fault position (stopped-by t o v l w fault position e (rw e at unmade)) .1
 
 -- The two calls in turn keep all of this: the contract of `evaluate_and_check`.
 pub made-and-checked :

@@ -1,9 +1,9 @@
--- Laws of outcomes: when an evaluation was made, what it leaves in longer slices, and that the used parts of the tables that a text was read into are
+-- Laws of outcomes: what an evaluation leaves in longer slices, and that the used parts of the tables that a text was read into are
 -- its entries.
 -- Assumes nothing.
 use Prim.Native.Nat.{ℕ, _-_, _≤_}
 use mathlib.Core.Path.{_≡_, refl, sym, ap, _∙_}
-use mathlib.Core.Bool.{Bool, true, false, cond, not}
+use mathlib.Core.Bool.{Bool, true, false, cond}
 use mathlib.Core.List.{List, [], _∷_, _++_}
 use native.Mathlib.Nat.{sub-zero}
 use native.Mathlib.Omega.{arith}
@@ -16,18 +16,16 @@ use Rattle.wellfounded.specs.Stages.{wellFoundedModel, stagesOf}
 use Rattle.wellfounded.proofs.Tests.{first, second}
 use Rattle.wellfounded.proofs.Lists.{length-tabulate}
 use Rattle.wellfounded.proofs.Closure.{model-length}
-use Rattle.tables.specs.declared.Found.{Found}
-use Rattle.tables.specs.declared.Found.the-variants.{At, Nothing}
 use Rattle.tables.specs.declared.Fault.{Fault}
 use Rattle.tables.specs.declared.Verdict.{Verdict}
 use Rattle.tables.specs.declared.Verdict.the-variants.{Accepted, Refused}
-use Rattle.tables.specs.Faults.{lowest, Test, refusedOr, firstFault}
+use Rattle.tables.specs.Faults.{firstFault}
 use Rattle.tables.specs.Limits.{maxAtoms}
 use Rattle.tables.specs.Rows.{definitionOf}
-use Rattle.tables.specs.Sound.{Tables, lent, bookOf, tableTests, sliceTest}
-use Rattle.satisfaction.specs.Satisfied.{satisfactionTests, clauseTest, loadTest}
+use Rattle.tables.specs.Sound.{Tables, lent, bookOf}
 use Rattle.checker.specs.Check.{checkOf}
-use Rattle.evaluator.specs.Evaluate.{settingTest, undecidedTest, refusalTests, modelTests, evaluated, stoppedOr, evaluateOf, Answers}
+use Rattle.evaluator.specs.Evaluate.{refusalTests, isMade, evaluated, stoppedOr, evaluateOf, Answers}
+use Rattle.evaluator.proofs.MadeLaws.{stopped-unmade, model-made}
 use Rattle.format.specs.Forms.{Form}
 use Rattle.judging.specs.declared.reached.Reached.{Reached}
 use Rattle.judging.specs.declared.reached.Space.{Space}
@@ -46,40 +44,7 @@ use Rattle.lines.specs.Walks.{passes as walk-passes}
 use Rattle.booktext.specs.Answers.{spaceOf, stateOf, answerOf, ReadsOnce}
 use Rattle.booktext.proofs.Filling.{Counts, Stood, used-counts, used-stood}
 use Rattle.outcome.specs.Outcomes.{fullSpace, verdictAlone, unlessStopped, evaluationOutcome, tablesOf, usedParts, bookOutcome}
-use Rattle.outcome.specs.Outcomes.{answerOutcome, outcomeOf, modelFault, isMade, Comes, Roomy, FitsBook}
-
--- The fault of a refusal is the fault of one of the tests.
-refused-kind :
-    (kind : Fault → Bool) (ts : List Test) → all (λ (t : Test). kind (t .fault)) ts ≡ true → (fault : Fault) (at : ℕ) →
-    firstFault ts ≡ Refused fault at → kind fault ≡ true
-unfolding all firstFault refusedOr
-refused-kind kind [] h fault at e = let z : _≡_ {A = ℕ} 0 1 = cc in absurd (omega arith)
-refused-kind kind (t ∷ ts) h fault at e = step (lowest (t .positions) (t .bad)) e (refused-kind kind ts (second (kind (t .fault)) _ h) fault at)
-  where
-    step :
-        (found : Found) → refusedOr (t .fault) found (firstFault ts) ≡ Refused fault at → (firstFault ts ≡ Refused fault at → kind fault ≡ true) →
-        kind fault ≡ true
-    step (At k) d later = let same : t .fault ≡ fault = cc in rw same at (first (kind (t .fault)) _ h)
-    step Nothing d later = later d
-
--- An evaluation that is stopped is not made, and one that is refused for its model is.
-not-true : (b : Bool) → not b ≡ true → b ≡ false
-not-true false h = refl
-not-true true h = sym h
-
-stopped-unmade :
-    (t : Tables) (given lengths : List ℕ) (fault : Fault) (at : ℕ) → firstFault (refusalTests t given lengths) ≡ Refused fault at →
-    modelFault fault ≡ false
-unfolding refusalTests tableTests sliceTest settingTest all modelFault
-stopped-unmade t given lengths fault at e = not-true _ (refused-kind (λ f. not (modelFault f)) (refusalTests t given lengths) refl fault at e)
-
-model-made : (t : Tables) (model : List ℕ) → isMade (firstFault (modelTests t model)) ≡ true
-unfolding modelTests undecidedTest satisfactionTests clauseTest loadTest all modelFault isMade
-model-made t model = step (firstFault (modelTests t model)) refl
-  where
-    step : (v : Verdict) → firstFault (modelTests t model) ≡ v → isMade v ≡ true
-    step Accepted e = refl
-    step (Refused fault at) e = refused-kind modelFault (modelTests t model) refl fault at e
+use Rattle.outcome.specs.Outcomes.{answerOutcome, outcomeOf, Comes, Roomy, FitsBook}
 
 -- An evaluation at the fronts of longer slices comes to the outcome: what it makes is written over them, and if it is stopped they stay as they were.
 module _

@@ -1,12 +1,8 @@
 -- What a text comes to: its verdict, and for an open form what was made.
 use Prim.Native.Nat.{ℕ, _*_, _≤_}
 use mathlib.Core.Path.{_≡_}
-use mathlib.Core.Bool.{Bool, true, false}
 use mathlib.Core.List.{List, [], _∷_}
 use lib.ListN.{length, take}
-use Rattle.tables.specs.declared.Fault.{Fault}
-use Rattle.tables.specs.declared.Fault.the-variants.{Malformed, OutsideLimits, OutOfOrder, NoSpace, TableSizes, RuleRow, ClauseRow, LoadRow}
-use Rattle.tables.specs.declared.Fault.the-variants.{Literal, LoadTerm, SliceLength, Value, Level, Unsupported, Unblocked, Undecided, FailingClause, FailingLoad}
 use Rattle.tables.specs.declared.Verdict.{Verdict}
 use Rattle.tables.specs.declared.Verdict.the-variants.{Accepted, Refused}
 use Rattle.tables.specs.Faults.{firstFault}
@@ -90,32 +86,6 @@ answerOutcome book forms = bookOutcome (book .verdict) (book .state) (book .atom
 
 unfoldable pub outcomeOf : List ℕ → TextOutcome
 outcomeOf text = answerOutcome (answerOf (judgeText fullSpace text)) (formsOf text)
-
--- The faults of a model: an atom left undecided, a failing clause, a failing load line.
-unfoldable pub modelFault : Fault → Bool
-modelFault Malformed = false
-modelFault OutsideLimits = false
-modelFault OutOfOrder = false
-modelFault NoSpace = false
-modelFault TableSizes = false
-modelFault RuleRow = false
-modelFault ClauseRow = false
-modelFault LoadRow = false
-modelFault Literal = false
-modelFault LoadTerm = false
-modelFault SliceLength = false
-modelFault Value = false
-modelFault Level = false
-modelFault Unsupported = false
-modelFault Unblocked = false
-modelFault Undecided = true
-modelFault FailingClause = true
-modelFault FailingLoad = true
-
--- Whether an evaluation was made: it was accepted, or refused for its model.
-unfoldable pub isMade : Verdict → Bool
-isMade Accepted = true
-isMade (Refused fault position) = modelFault fault
 
 -- What a function promises that gives an outcome: its answer, with the values and levels that were made at the front of the lent slices.
 pub record Comes (o : TextOutcome) (values levels : List ℕ) (verdict : Verdict) (state : StateForm) (atoms rounds : ℕ) (valuesAfter levelsAfter : List ℕ) : Type 0 where

@@ -14,7 +14,8 @@ use Rattle.tables.specs.Faults.{positionOf}
 use Rattle.tables.specs.Limits.{maxAtoms}
 use Rattle.forms.specs.Entries.{over}
 use Rattle.booktext.specs.declared.StateForm.{StateForm}
-use Rattle.outcome.specs.Outcomes.{outcomeOf, isMade, Comes}
+use Rattle.evaluator.specs.Evaluate.{isMade}
+use Rattle.outcome.specs.Outcomes.{outcomeOf, Comes}
 use Rattle.outcome.proofs.Bounds.{outcome-bounded}
 use Rattle.page.specs.Pages.{pageOf, pageSize, Puts, Printable}
 use Rattle.page.proofs.PageLaws.{page-size}

@@ -8,7 +8,8 @@ use lib.ListN.{length}
 use Rattle.forms.specs.Entries.{over}
 use Rattle.booktext.specs.declared.StateForm.{StateForm}
 use Rattle.booktext.specs.declared.StateForm.the-variants.{NoState, OpenState, ClaimState}
-use Rattle.outcome.specs.Outcomes.{TextOutcome, outcomeOf, isMade}
+use Rattle.evaluator.specs.Evaluate.{isMade}
+use Rattle.outcome.specs.Outcomes.{TextOutcome, outcomeOf}
 use Rattle.page.specs.Pages.{pageOf, pageSize}
 
 -- What was made is printed for an open form, unless a refusal other than 25, 26 and 27 stopped the maker.

@@ -16,7 +16,7 @@ use Rattle.tables.specs.Marks.{isMarked, markWhere, notHeld}
 use Rattle.satisfaction.specs.Tenths.{roundTenth, tenths, distance}
 use Rattle.satisfaction.specs.Satisfied.{clauseHolds, termCount, loadSum, loadHolds, failingClause, failingLoad, clauseTest, loadTest, satisfactionTests}
 use Rattle.checker.specs.Check.{valueTest, badLevel, unsupported, unblocked, levelTest, supportTest, blockingTest, levelTests, claimTests, checkTests, checkOf}
-use Rattle.evaluator.specs.Evaluate.{badSetting, settingTest, undecidedTest, refusalTests, modelTests, evaluated, stoppedOr, evaluateOf}
+use Rattle.evaluator.specs.Evaluate.{badSetting, settingTest, undecidedTest, refusalTests, modelTests, modelFault, isMade, evaluated, stoppedOr, evaluateOf}
 use Rattle.format.specs.Forms.{decimalWith, decimal, signed, literalBytes, termBytes, pairBytes, render, renderAll}
 use Rattle.format.specs.Parse.{andThen, parts, readParts, skip, isDigit, moreDigits, startsWithDigit, readNumber, negative, readSigned, readNegated, readLiteral, readTerm, readPair, readAtoms, readRule, readClause, readLoad, readOpen, readClaim, readAs, readForm, whole, parse, readLine}
 use Rattle.format.specs.Words.{startsWith, wordAt, wordOf, kindOf, kindAt}
@@ -25,7 +25,7 @@ use Rattle.judging.specs.States.{start, added, kindIn, sizeIn, partsIn, after, 
 use Rattle.judging.specs.Judging.{literalWithin, termWithin, pairWithin, boundWithin, atomBound, numbersWithin, withinLimits, between, mayFollow, risesFrom, partsInOrder, inOrder, judgeForm, prepend, lines, formIn, judgeReading, judgeLine, continued, judgeLines, judgeText, consRead, formsFrom, formsOf}
 use Rattle.forms.specs.Entries.{literalsIn, termsIn, ruleRow, clauseRow, loadRow, openValues, stateValues, stateLevels, entriesOf, joined, entriesFrom, bookEntries, filled}
 use Rattle.booktext.specs.Answers.{spaceOf, stateOf, answerOf}
-use Rattle.outcome.specs.Outcomes.{fullSpace, verdictAlone, unlessStopped, evaluationOutcome, tablesOf, usedParts, bookOutcome, answerOutcome, outcomeOf, modelFault, isMade}
+use Rattle.outcome.specs.Outcomes.{fullSpace, verdictAlone, unlessStopped, evaluationOutcome, tablesOf, usedParts, bookOutcome, answerOutcome, outcomeOf}
 use Rattle.page.specs.Pages.{verdictLine, madeLine, atomLine, joinBelow, lineAt, levelLines, atomLines, pageOf}
 use Rattle.report.specs.Reports.{isOpenState, printsAtoms, outcomePage, reportOf}
 use Rattle.samplelist.specs.Samples.{bytes, prints, bookA, samples, texts, pages}

@@ -4,10 +4,12 @@ use Prim.Native.Nat.{ℕ, zero, suc, _+_, _≤_, _<_}
 use mathlib.Core.Path.{_≡_, refl, sym, ap, subst, _∙_}
 use mathlib.Core.Logic.{_⊎_, inl, inr, ⊎-elim}
 use mathlib.Core.Bool.{Bool, true, false}
-use mathlib.Core.List.{List, [], _∷_, _++_, List·Memᴰ, List·Memᴰ·head, List·Memᴰ·tail, List·Memᴰ·not-nil, List·Memᴰ·cases-cons}
+use mathlib.Core.List.{List, [], _∷_, _++_, List·Memᴰ, List·Memᴰ·head, List·Memᴰ·tail, List·Memᴰ·not-nil, List·Memᴰ·cases-cons, Memᴰ·append-right}
 use native.Mathlib.Nat.{le-of-suc-le-suc, not-suc-le-zero, eq-or-lt-of-le}
 use native.Mathlib.Numerals.{add-one}
 use native.Mathlib.Omega.{arith}
+use Rattle.wellfounded.specs.Lists.{all}
+use Rattle.wellfounded.proofs.Lists.{all-use}
 use Rattle.tables.specs.declared.Found.{Found}
 use Rattle.tables.specs.declared.Found.the-variants.{At, Nothing}
 use Rattle.tables.specs.declared.Fault.{Fault}
@@ -216,6 +218,15 @@ refused-by (x ∷ xs) f p e = ⊎-elim (λ good. later good (λ e′. refused-by
           noLower = says .2;
           noneEarlier = absent-none;
         }
+
+-- A refusal is for the fault of one of the tests.
+pub refused-among :
+    (ok : Fault → Bool) (ts : List Test) → all (λ (x : Test). ok (x .fault)) ts ≡ true →
+    (fault : Fault) (position : ℕ) → firstFault ts ≡ Refused fault position → ok fault ≡ true
+refused-among ok ts every fault position e =
+    let r = refused-by ts fault position e in
+    ap ok (sym (r .isFault)) ∙ all-use (λ (x : Test). ok (x .fault)) ts every
+    (subst (List·Memᴰ (r .test)) (sym (r .place)) (Memᴰ·append-right (r .earlier) (List·Memᴰ·head refl)))
 
 -- Lists of tests are tried one after the other.
 pub first-append : (xs ys : List Test) → firstFault xs ≡ Accepted → firstFault (xs ++ ys) ≡ firstFault ys

@@ -11,7 +11,7 @@ use Rattle.tables.specs.declared.Fault.{Fault}
 use Rattle.tables.specs.declared.Fault.the-variants.{Malformed, OutsideLimits, OutOfOrder, NoSpace, TableSizes, RuleRow, ClauseRow, LoadRow}
 use Rattle.tables.specs.declared.Fault.the-variants.{Literal, LoadTerm, SliceLength, Value, Level, Unsupported, Unblocked, Undecided, FailingClause, FailingLoad}
 use Rattle.tables.proofs.Fault.{the-type}
-use Rattle.outcome.specs.Outcomes.{modelFault, isMade}
+use Rattle.evaluator.specs.Evaluate.{modelFault, isMade}
 use Rattle.outcome.proofs.is_made.Statement.{statement}
 use Rattle.outcome.proofs.is_made.Tie as tie
 
