@@ -15,21 +15,21 @@ use Rattle.judging.specs.States.{start}
 use Rattle.judging.specs.Judging.{lines, judgeLines, judgeText, maxBytes, formsOf}
 use Rattle.judging.proofs.Accepted.{accepted-book, book-passed}
 use Rattle.forms.specs.Entries.{Contents, storeForms, bookEntries, filled}
-use Rattle.lines.specs.Walks.{passes, Walked}
+use Rattle.lines.specs.Walks.{isPassed, Walked}
 use Rattle.booktext.specs.declared.Book.{Book}
 use Rattle.booktext.specs.Answers.{spaceOf, answerOf, contentsAfter, Reads, ReadsOnce}
 use Rattle.booktext.proofs.Filling.{stored-filled}
 
 -- What a judgement that passes has reached.
-passed-state : (j : Judged) → passes j ≡ true → (t : Reached) × (j ≡ Passed t)
-unfolding passes
+passed-state : (j : Judged) → isPassed j ≡ true → (t : Reached) × (j ≡ Passed t)
+unfolding isPassed
 passed-state (Passed t) p = (t, refl)
 passed-state (Failed fault at) p = absurd (false≢true p)
 
 module _ (text : List ℕ) (before : Contents) where
   -- A text that is too long.
   pub once-long : (answer : Book) (after : Contents) → maxBytes < length text → answer ≡ answerOf (Failed OutsideLimits 0) → ReadsOnce text before answer after
-  unfolding judgeText passes
+  unfolding judgeText isPassed
   once-long answer after l e =
       let long = lt-leb (length text) maxBytes l in
       record { answered = rw long e; written = λ p. absurd (false≢true (rw long at p)) }
@@ -75,7 +75,7 @@ module _ (text : List ℕ) (before : Contents) where
     pub read-filled :
         (answer : Book) (j : Judged) (t : Reached) (after : Contents) → j ≡ judgeLines (spaceOf before) start 0 (lines text) → j ≡ Passed t →
         ReadsOnce text before answer after → Reads text before answer after
-    unfolding passes contentsAfter
+    unfolding isPassed contentsAfter
     read-filled answer j t after e f once =
         let passed : judgeText (spaceOf before) text ≡ Passed t = judged-lines ∙ (sym e ∙ f) in
         record { answered = once .answered; written = rw passed (once .written (rw passed refl)) }

@@ -13,7 +13,7 @@ use Rattle.judging.specs.declared.reached.Judged.the-variants.{Passed, Failed}
 use Rattle.judging.specs.Judging.{judgeText, formsOf}
 use Rattle.judging.specs.States.{openStood, claimStood}
 use Rattle.forms.specs.Entries.{Contents, bookEntries, filled}
-use Rattle.lines.specs.Walks.{passes}
+use Rattle.lines.specs.Walks.{isPassed}
 use Rattle.booktext.specs.declared.StateForm.{StateForm}
 use Rattle.booktext.specs.declared.StateForm.the-variants.{NoState, OpenState, ClaimState}
 use Rattle.booktext.specs.declared.Book.{Book}
@@ -70,4 +70,4 @@ pub record Reads (text : List ℕ) (before : Contents) (answer : Book) (afterwar
 -- What `read_once` promises: the same answer, and of an accepted text the same tables. What a refused text leaves in them is not said.
 pub record ReadsOnce (text : List ℕ) (before : Contents) (answer : Book) (afterwards : Contents) : Type 0 where
   pub answered : answer ≡ answerOf (judgeText (spaceOf before) text)
-  pub written : passes (judgeText (spaceOf before) text) ≡ true → afterwards ≡ filled (bookEntries (formsOf text)) before
+  pub written : isPassed (judgeText (spaceOf before) text) ≡ true → afterwards ≡ filled (bookEntries (formsOf text)) before

@@ -32,7 +32,7 @@ use Rattle.forms.specs.declared.Line.the-variants.{Formed, NoForm}
 use Rattle.forms.specs.Entries.{Contents, entriesOf, store, storeForms}
 use Rattle.forms.specs.Readers.{formed, Fine, Forms}
 use Rattle.forms.proofs.DispatchLaws.{Stored, rest-at}
-use Rattle.lines.specs.Walks.{moveOf, Ready, goesOn, Moves, passes, Walked}
+use Rattle.lines.specs.Walks.{moveOf, Ready, goesOn, Moves, isPassed, Walked}
 
 -- ── A line judged ──
 
@@ -223,7 +223,7 @@ module _ {text : List ℕ} {space : Space} {before : Contents} {s : Reached} {at
   pub walk-stop :
       {answer : Move} {fault : Fault} {later : Contents} → at < length text → Moves space s text (readLine (drop at text)) answer now later →
       answer ≡ Stop fault → Walked text space before (Failed fault at) later
-  unfolding moveOf continued passes
+  unfolding moveOf continued isPassed
   walk-stop {answer} {fault} {later} l m e =
       record { answered = step (readLine (drop at text)) refl (sym (m .answered) ∙ e) ∙ w .judged; laid = λ p. absurd (false≢true p) }
     where
@@ -243,7 +243,7 @@ module _ {text : List ℕ} {space : Space} {before : Contents} {s : Reached} {at
     ended = drop-of-length-le text l
 
     pub walk-missing : s .phase < openStood → Walked text space before (Failed OutOfOrder at) now
-    unfolding judgeLines lines passes
+    unfolding judgeLines lines isPassed
     walk-missing p =
         record { answered = rw (ended, lt-leb openStood (s .phase) p) at (w .judged); laid = λ h. absurd (false≢true h) }
 

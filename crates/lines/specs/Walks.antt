@@ -41,10 +41,10 @@ pub record Moves (space : Space) (s : Reached) (text : List ℕ) (reading : Read
   pub laid : Holds (λ f rest. goesOn answer ≡ true → afterwards ≡ store s (entriesOf s f) before) reading
 
 -- What the walk over a text promises: its answer, and for a text that passes the forms' entries, stored one form after the other.
-unfoldable pub passes : Judged → Bool
-passes (Passed s) = true
-passes (Failed fault at) = false
+unfoldable pub isPassed : Judged → Bool
+isPassed (Passed s) = true
+isPassed (Failed fault at) = false
 
 pub record Walked (text : List ℕ) (space : Space) (before : Contents) (answer : Judged) (afterwards : Contents) : Type 0 where
   pub answered : answer ≡ judgeLines space start 0 (lines text)
-  pub laid : passes answer ≡ true → afterwards ≡ storeForms start (formsOf text) before
+  pub laid : isPassed answer ≡ true → afterwards ≡ storeForms start (formsOf text) before

@@ -40,7 +40,7 @@ use Rattle.forms.specs.Entries.{Contents, bookEntries, over, filled}
 use Rattle.booktext.specs.declared.StateForm.{StateForm}
 use Rattle.booktext.specs.declared.StateForm.the-variants.{NoState, OpenState, ClaimState}
 use Rattle.booktext.specs.declared.Book.{Book}
-use Rattle.lines.specs.Walks.{passes as walk-passes}
+use Rattle.lines.specs.Walks.{isPassed}
 use Rattle.booktext.specs.Answers.{spaceOf, stateOf, answerOf, ReadsOnce}
 use Rattle.booktext.proofs.Filling.{Counts, Stood, used-counts, used-stood}
 use Rattle.outcome.specs.Outcomes.{fullSpace, verdictAlone, unlessStopped, evaluationOutcome, tablesOf, usedParts, bookOutcome}
@@ -254,7 +254,7 @@ failed-read text before fault at e =
 pub text-read :
     (text : List ℕ) (before : Contents) (book : Book) (afterwards : Contents) → spaceOf before ≡ fullSpace → ReadsOnce text before book afterwards →
     Read text book afterwards
-unfolding walk-passes
+unfolding isPassed
 text-read text before book afterwards full r = step (judgeText fullSpace text) refl
   where
     step : (j : Judged) → judgeText fullSpace text ≡ j → Read text book afterwards
