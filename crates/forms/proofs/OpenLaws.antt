@@ -12,7 +12,7 @@ use lib.Seq.{sets, set-set, set-comm, getD-set-same, getD-set-other, ext-getD}
 use borrow.Author.Tests.{eqb-true, eqb-false, ne-eqb, ltb-true}
 use Rattle.wellfounded.specs.Lists.{all, any, tabulate}
 use Rattle.wellfounded.proofs.Tests.{first, second}
-use Rattle.wellfounded.proofs.Lists.{length-tabulate, getD-tabulate}
+use Rattle.wellfounded.proofs.Lists.{length-tabulate, getD-tabulate, tabulate-replicate}
 use Rattle.format.specs.Forms.{Form, openForm}
 use Rattle.format.specs.Parse.{Reading, got, andThen, readNumber, parts, readOpen}
 use Rattle.format.specs.declared.kinds.Kind.the-variants.{Open}
@@ -66,11 +66,6 @@ module _ {A : Type 0} where
           rw e (rw is (getD-set-same (tabulate n f) i y y (omega (arith, length-tabulate n f))))
       step k false e b = rw e (getD-set-other (tabulate n f) i k y y (eqb-false k i e) ∙ getD-tabulate n f k y b)
 
-zeros : (n : ℕ) → replicate n 0 ≡ tabulate {A = ℕ} n (λ k. 0)
-unfolding tabulate
-zeros zero = refl
-zeros (suc n) = ap (λ (l : List ℕ). 0 ∷ l) (zeros n)
-
 -- Marks over tabulated values.
 marked-over :
     (size : ℕ) (values : List ℕ) (f : ℕ → ℕ) (atoms : List ℕ) → all (λ atom. ltb atom size) atoms ≡ true →
@@ -98,7 +93,7 @@ pub marked-open :
     (size : ℕ) (values atoms : List ℕ) → all (λ atom. ltb atom size) atoms ≡ true →
     marked atoms (sets values 0 (replicate size 0)) ≡ sets values 0 (openValues size atoms)
 unfolding openValues
-marked-open size values atoms t = ap (λ (l : List ℕ). marked atoms (sets values 0 l)) (zeros size) ∙ marked-over size values (λ k. 0) atoms t
+marked-open size values atoms t = ap (λ (l : List ℕ). marked atoms (sets values 0 l)) (sym (tabulate-replicate size 0)) ∙ marked-over size values (λ k. 0) atoms t
 
 -- ── The form ──
 

@@ -10,12 +10,12 @@ use native.Mathlib.Numerals.{add-one}
 use native.Mathlib.Omega.{arith}
 use lib.Dec.{eqb}
 use lib.ListN.{length, getD, set, length-set}
-use lib.Seq.{ext-getD, getD-set-same, getD-set-other, set-out}
+use lib.Seq.{getD-set-same, getD-set-other, set-out}
 use borrow.Author.Tests.{eqb-true, eqb-false, ne-eqb}
 use Rattle.wellfounded.specs.Lists.{iterate, count}
 use Rattle.wellfounded.specs.Literals.{isTrue, valueAt}
 use Rattle.wellfounded.proofs.Tests.{decided}
-use Rattle.wellfounded.proofs.Lists.{length-tabulate, getD-tabulate, iterate-fixed, le-or-lt, count-le, count-same}
+use Rattle.wellfounded.proofs.Lists.{iterate-fixed, le-or-lt, count-le, count-same}
 use Rattle.wellfounded.proofs.Literals.{value-beyond}
 use Rattle.tables.specs.Rows.{ruleCount, ruleHead}
 use Rattle.tables.specs.Marks.{isMarked}
@@ -29,41 +29,9 @@ pub beyond-untrue : (values : List ℕ) (atom : ℕ) → length values ≤ atom 
 unfolding isTrue
 beyond-untrue values atom h = ap isTrue (value-beyond values atom h)
 
--- The loop has come to n: the marks below n are those to begin with.
-pub record Started (defined values : List ℕ) (long n : ℕ) (marks : List ℕ) : Type 0 where
-  pub low : n ≤ long
-  pub same : length marks ≡ long
-  pub is : (atom : ℕ) → atom < n → getD marks atom 0 ≡ cond (not (isMarked defined atom) || isTrue (valueAt values atom)) 1 0
-
-module _ {defined values : List ℕ} where
-  pub started-start : (marks : List ℕ) → Started defined values (length marks) 0 marks
-  started-start marks = record { low = omega arith; same = refl; is = λ atom l. absurd (not-suc-le-zero l) }
-
-  pub started-turn :
-      (long n mark : ℕ) (marks : List ℕ) → n < long → mark ≡ cond (not (isMarked defined n) || isTrue (valueAt values n)) 1 0 →
-      Started defined values long n marks → Started defined values long (n + 1) (set marks n mark)
-  started-turn long n mark marks l e s =
-      record {
-        low = omega arith;
-        same = simp length-set (s .same);
-        is = λ atom b.
-            ⊎-elim
-            (λ (here : eqb atom n ≡ true). rw (eqb-true atom n here) (getD-set-same marks n mark 0 (omega (arith, s .same)) ∙ e))
-            (λ (other : eqb atom n ≡ false).
-            let ne : atom ≡ n → ⊥ = eqb-false atom n other in
-            getD-set-other marks n atom mark 0 ne ∙ s .is atom (below atom b ne))
-            (decided (eqb atom n));
-      }
-    where
-      below : (atom : ℕ) → atom < n + 1 → (atom ≡ n → ⊥) → atom < n
-      below atom b ne = ⊎-elim (λ (e′ : atom ≡ n). absurd (ne e′)) (λ (l′ : atom < n). l′) (eq-or-lt-of-le (omega arith))
-
-  pub started-end :
-      (n : ℕ) (before marks : List ℕ) → length before ≤ n → Started defined values (length before) n marks → marks ≡ foundStart defined values before
-  unfolding foundStart
-  started-end n before marks h s =
-      ext-getD 0 _ _ (s .same ∙ sym (length-tabulate _ _))
-      (λ atom l. s .is atom (omega (arith, s .same)) ∙ sym (getD-tabulate (length before) _ atom 0 (omega (arith, s .same))))
+-- An atom's mark to begin with.
+abbrev pub startMark : List ℕ → List ℕ → ℕ → ℕ
+startMark defined values atom = cond (not (isMarked defined atom) || isTrue (valueAt values atom)) 1 0
 
 -- ── How many atoms are not marked ──
 

@@ -3,6 +3,5 @@ pub mod FoundedKept
 pub mod NextStage
 pub mod AfterRounds
 pub mod RoundStep
-pub mod InPlace
 pub mod SettingLaws
 pub mod RoundLaws

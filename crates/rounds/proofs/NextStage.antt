@@ -15,7 +15,7 @@ use Rattle.wellfounded.specs.Definitions.{Rule, Definition, isDefined, fires}
 use Rattle.wellfounded.specs.Unfounded.{member, largest}
 use Rattle.wellfounded.specs.Stages.{stageZero, nextValue, next, stage}
 use Rattle.wellfounded.proofs.Tests.{clash, not-both, both, first, second, same-test}
-use Rattle.wellfounded.proofs.Lists.{length-tabulate, getD-tabulate, member-tabulate, tabulate-member, anyBelow-use, anyBelow-make}
+use Rattle.wellfounded.proofs.Lists.{length-tabulate, getD-tabulate, member-tabulate, tabulate-member, anyBelow-use, anyBelow-make, tabulate-replicate}
 use Rattle.wellfounded.proofs.Literals.{true-held}
 use Rattle.wellfounded.proofs.Definitions.{someRule-use, someRule-make}
 use Rattle.wellfounded.proofs.Stages.{next-true-from, stage-length, stage-suc, stage-keeps, stage-keeps-add}
@@ -25,7 +25,6 @@ use Rattle.tables.proofs.MarkLaws.{fresh-marks}
 use Rattle.founding.specs.Founding.{Founded}
 use Rattle.rounds.specs.Rounds.{rowFires, firesBy, levelsAfter, occursNegated, startValues, decides, negatedBecomesTrue, decidedValues, decidedLevels}
 use Rattle.rounds.proofs.RoundLaws.{nextAt}
-use Rattle.rounds.proofs.SettingLaws.{zeros}
 
 -- ── Lists and numbers ──
 
@@ -109,7 +108,7 @@ module _ (atoms : ℕ) (rules literals o : List ℕ) where
 
   pub levels-start : replicate atoms 0 ≡ levelsAfter (definitionOf atoms rules literals) o 0
   unfolding levelsAfter definitionOf least
-  levels-start = sym (zeros atoms) ∙ tabulate-same atoms _ _ (λ a l. none (isHeld (valueAt (stage d o 0) a)))
+  levels-start = sym (tabulate-replicate atoms 0) ∙ tabulate-same atoms _ _ (λ a l. none (isHeld (valueAt (stage d o 0) a)))
     where
       none : (b : Bool) → _≡_ {A = ℕ} 0 (cond b 0 0)
       none true = refl

@@ -1,14 +1,13 @@
--- Laws of a round: what it does with an atom, as the code tests it, and a loop that counts and looks for atoms.
+-- Laws of a round: what it does with an atom, as the code tests it, and a loop that looks for one.
 -- Assumes nothing.
 use Prim.Native.Nat.{ℕ, _+_, _<_}
-use mathlib.Core.Path.{_≡_, refl, sym}
-use mathlib.Core.Bool.{Bool, true, false, not, cond, _&&_, _||_}
+use mathlib.Core.Path.{_≡_, sym}
+use mathlib.Core.Bool.{Bool, true, false, not, cond, _&&_, _||_, or-false}
 use mathlib.Core.List.{List}
 use native.Mathlib.Numerals.{add-one}
-use native.Mathlib.Omega.{arith}
 use lib.Dec.{eqb, ltb}
 use lib.ListN.{length, getD}
-use Rattle.wellfounded.specs.Lists.{count, anyBelow}
+use Rattle.wellfounded.specs.Lists.{anyBelow}
 use Rattle.wellfounded.specs.Literals.{isHeld, valueAt}
 use Rattle.wellfounded.proofs.Tests.{or-right}
 use Rattle.tables.specs.Marks.{isMarked}
@@ -39,24 +38,12 @@ pub next-at :
 unfolding isMarked
 next-at state firing founded atom value within e = rw (value-at state atom within, e)
 
--- A loop over 0, 1, 2, .. that counts those that pass a test, or looks for one.
+-- A loop over 0, 1, 2, .. that looks for one that passes a test.
 module _ (p : ℕ → Bool) (i : ℕ) where
-  pub counted-pass : (n : ℕ) → n ≡ count i p → p i ≡ true → n + 1 ≡ count (i + 1) p
-  unfolding count
-  counted-pass n so here = rw (add-one i, here) (omega arith)
-
-  pub counted-fail : (n : ℕ) → n ≡ count i p → p i ≡ false → n ≡ count (i + 1) p
-  unfolding count
-  counted-fail n so here = rw (add-one i, here) (omega arith)
-
   pub some-pass : p i ≡ true → true ≡ anyBelow (i + 1) p
   unfolding anyBelow
   some-pass here = rw (add-one i) (sym (or-right (anyBelow i p) (p i) here))
 
   pub some-fail : (found : Bool) → found ≡ anyBelow i p → p i ≡ false → found ≡ anyBelow (i + 1) p
   unfolding anyBelow
-  some-fail found so here = rw (add-one i, here, ← so) (or-false found)
-    where
-      or-false : (b : Bool) → b ≡ (b || false)
-      or-false true = refl
-      or-false false = refl
+  some-fail found so here = rw (add-one i, here, ← so) (sym (or-false found))

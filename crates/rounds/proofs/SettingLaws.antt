@@ -1,16 +1,16 @@
 -- Laws of the setting: its fault as the code tests it, the values it starts from, and the atoms that occur negated.
 -- Assumes nothing.
 use Prim.Native.Nat.{ℕ, zero, suc, _<_}
-use mathlib.Core.Path.{_≡_, refl, sym, ap}
+use mathlib.Core.Path.{_≡_, refl, sym}
 use mathlib.Core.Logic.{_⊎_, inl, inr}
 use mathlib.Core.Bool.{Bool, true, not, cond, _&&_}
 use mathlib.Core.List.{List, [], _∷_, List·Memᴰ, List·Memᴰ·head, List·Memᴰ·tail, List·Memᴰ·not-nil, List·Memᴰ·cases-cons}
 use native.Mathlib.Nat.{le-of-suc-le-suc, not-suc-le-zero}
 use native.Mathlib.Omega.{arith}
 use lib.Dec.{eqb, ltb}
-use lib.ListN.{length, getD, replicate}
+use lib.ListN.{length, getD}
 use borrow.Author.Tests.{ne-eqb, lt-ltb}
-use Rattle.wellfounded.specs.Lists.{anyBelow, tabulate}
+use Rattle.wellfounded.specs.Lists.{anyBelow}
 use Rattle.wellfounded.specs.Literals.{isHeld, valueAt, atomOf, isNegated}
 use Rattle.wellfounded.proofs.Tests.{both, first, second, same-test}
 use Rattle.wellfounded.proofs.Lists.{any-use, any-make, anyBelow-use, anyBelow-make}
@@ -50,11 +50,6 @@ module _ (defined setting : List ℕ) (atom : ℕ) where
   pub start-open : atom < length setting → (getD defined atom 0 ≡ 1 → ⊥) → getD setting atom 0 ≡ startAt defined setting atom
   unfolding isMarked
   start-open within unmarked = rw (ne-eqb _ _ unmarked, value-at setting atom within)
-
-pub zeros : (n : ℕ) → tabulate {A = ℕ} n (λ k. 0) ≡ replicate n 0
-unfolding tabulate
-zeros zero = refl
-zeros (suc n) = ap (λ (l : List ℕ). 0 ∷ l) (zeros n)
 
 -- The members of a list are its entries.
 module _ {A : Type 0} (z : A) where

@@ -147,15 +147,15 @@ module _ (heads : ℕ → ℕ) (passes : ℕ → Bool) (before : List ℕ) (n : 
       ⊎-elim (λ (t : passes n ≡ true). rw (set-again marks head marked) at (row-puts head e t m)) (λ (f : passes n ≡ false). row-passes f m)
       (decided (passes n))
 
--- A loop that counts the marked atoms has come to n.
-module _ (marks : List ℕ) (n marked : ℕ) (so : marked ≡ count n (isMarked marks)) where
-  pub count-up : getD marks n 0 ≡ 1 → marked + 1 ≡ count (n + 1) (isMarked marks)
-  unfolding count isMarked
-  count-up here = rw (add-one n, here) (omega arith)
+-- A loop over 0, 1, 2, .. that counts those that pass a test has come to i.
+module _ (p : ℕ → Bool) (i n : ℕ) (so : n ≡ count i p) where
+  pub counted-pass : p i ≡ true → n + 1 ≡ count (i + 1) p
+  unfolding count
+  counted-pass here = rw (add-one i, here) (omega arith)
 
-  pub count-stay : (getD marks n 0 ≡ 1 → ⊥) → marked ≡ count (n + 1) (isMarked marks)
-  unfolding count isMarked
-  count-stay here = rw (add-one n, ne-eqb _ _ here) (omega arith)
+  pub counted-fail : p i ≡ false → n ≡ count (i + 1) p
+  unfolding count
+  counted-fail here = rw (add-one i, here) (omega arith)
 
 -- The code's test of a value.
 pub true-at : (values : List ℕ) (atom : ℕ) → atom < length values → isTrue (valueAt values atom) ≡ eqb (getD values atom 0) 1

@@ -8,7 +8,7 @@ use mathlib.Core.List.{List, [], _∷_, List·Memᴰ, List·Memᴰ·head, List·
 use native.Mathlib.Nat.{le-of-suc-le-suc, not-suc-le-zero, eq-or-lt-of-le, add-zero, add-suc}
 use native.Mathlib.Omega.{arith}
 use lib.Dec.{eqb, leb}
-use lib.ListN.{length, getD}
+use lib.ListN.{length, getD, replicate}
 use borrow.Author.Tests.{eqb-true, eq-eqb, leb-true, leb-false}
 use Rattle.wellfounded.specs.Lists.{all, any, tabulate, iterate, allBelow, anyBelow, count, least, same}
 use Rattle.wellfounded.proofs.Tests.{decided, clash, both, first, second, either, or-left, or-right}
@@ -44,6 +44,11 @@ module _ {A : Type 0} where
   unfolding tabulate
   length-tabulate zero f = refl
   length-tabulate (suc n) f = ap suc (length-tabulate n (λ k. f (suc k)))
+
+  pub tabulate-replicate : (n : ℕ) (a : A) → tabulate n (λ k. a) ≡ replicate n a
+  unfolding tabulate
+  tabulate-replicate zero a = refl
+  tabulate-replicate (suc n) a = ap (λ (l : List A). a ∷ l) (tabulate-replicate n a)
 
   pub getD-tabulate : (n : ℕ) (f : ℕ → A) (k : ℕ) (z : A) → k < n → getD (tabulate n f) k z ≡ f k
   unfolding tabulate

@@ -2,7 +2,6 @@
 -- Assumes nothing.
 use mathlib.Core.Path.{_≡_}
 use lib.ListN.{length}
-use borrow.Author.Needs.{needs}
 use Rattle.capi.proofs.PackLaws.{read-within, read-position, read-told, read-untold}
 use Rattle.capi.proofs.battenplum_read.Statement.{statement}
 use Rattle.capi.proofs.battenplum_read.Tie as tie
@@ -21,7 +20,7 @@ returns : tie.Need-returns
 returns c = read-untold (c .if1 .taken)
 
 read-requires : tie.Need-read-requires
-read-requires c κs = search needs
+read-requires c κs = tt
 
 tell-requires : tie.Need-tell-requires
 tell-requires c κs = (seven (was-read c), read-within (was-read c .read .ensures))
@@ -30,31 +29,31 @@ pack-requires : tie.Need-pack-requires
 pack-requires c κs = read-position (was-read (c .before .before .before) .read .ensures)
 
 same-length : tie.Need-same-length
-same-length c = search needs
+same-length c = was-read (c .before .before .before .before) .read .kept .1 .0
 
 same-length-2 : tie.Need-same-length-2
-same-length-2 c = search needs
+same-length-2 c = was-read (c .before .before .before .before) .read .kept .1 .1 .0
 
 same-length-3 : tie.Need-same-length-3
-same-length-3 c = search needs
+same-length-3 c = was-read (c .before .before .before .before) .read .kept .1 .1 .1 .0
 
 same-length-4 : tie.Need-same-length-4
-same-length-4 c = search needs
+same-length-4 c = was-read (c .before .before .before .before) .read .kept .1 .1 .1 .1 .0
 
 same-length-5 : tie.Need-same-length-5
-same-length-5 c = search needs
+same-length-5 c = was-read (c .before .before .before .before) .read .kept .1 .1 .1 .1 .1 .0
 
 same-length-6 : tie.Need-same-length-6
-same-length-6 c = search needs
+same-length-6 c = was-read (c .before .before .before .before) .read .kept .1 .1 .1 .1 .1 .1 .0
 
 same-length-7 : tie.Need-same-length-7
-same-length-7 c = search needs
+same-length-7 c = was-read (c .before .before .before .before) .read .kept .1 .1 .1 .1 .1 .1 .1 .0
 
 same-length-8 : tie.Need-same-length-8
-same-length-8 c = search needs
+same-length-8 c = was-read (c .before .before .before .before) .read .kept .1 .1 .1 .1 .1 .1 .1 .1 .0
 
 same-length-9 : tie.Need-same-length-9
-same-length-9 c = search needs
+same-length-9 c = c .before .before .before .tell .kept .0
 
 returns-2 : tie.Need-returns-2
 returns-2 c = read-told (seven (was-read (c .before .before .before .before))) (was-read (c .before .before .before .before) .read .ensures) (c .pack .ensures) (c .before .before .before .tell .ensures)

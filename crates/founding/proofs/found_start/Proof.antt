@@ -3,18 +3,20 @@
 use Prim.Native.Nat.{_-_}
 use native.Mathlib.Omega.{arith}
 use lib.ListN.{length}
-use Rattle.founding.proofs.FoundingLaws.{Started, started-start, started-turn, started-end}
+use Rattle.founding.specs.Founding.{foundStart}
+use Rattle.founding.proofs.InPlace.{Written, written-start, written-turn, written-end}
+use Rattle.founding.proofs.FoundingLaws.{startMark}
 use Rattle.founding.proofs.found_start.Statement.{statement}
 use Rattle.founding.proofs.found_start.Tie as tie
 
 abbrev Inv-loop : tie.InvT-loop
-Inv-loop defined values founded₀ atom₀ founded atom = Started defined values (length founded₀) atom founded
+Inv-loop defined values founded₀ atom₀ founded atom = Written (startMark defined values) founded₀ atom founded
 
 abbrev μ-loop : tie.MeasureT-loop
 μ-loop defined values founded₀ atom₀ founded atom = length founded₀ - atom
 
 loop-holds : tie.Need-loop-holds Inv-loop μ-loop
-loop-holds c = started-start _
+loop-holds c = written-start
 
 start-mark-requires : tie.Need-start-mark-requires Inv-loop μ-loop
 start-mark-requires c κs = omega arith
@@ -29,13 +31,14 @@ loop-less : tie.Need-loop-less Inv-loop μ-loop
 loop-less c = omega arith
 
 loop-again : tie.Need-loop-again Inv-loop μ-loop
-loop-again c = started-turn _ _ _ _ (omega arith) (c .start-mark .ensures) (c .before .before .loop .inv)
+loop-again c = written-turn (omega arith) (c .start-mark .ensures) (c .before .before .loop .inv)
 
 same-length : tie.Need-same-length Inv-loop μ-loop
-same-length c = c .before .loop .inv .same
+same-length c = c .before .loop .inv .long
 
 returns : tie.Need-returns Inv-loop μ-loop
-returns c = started-end _ _ _ (omega arith) (c .before .loop .inv)
+unfolding foundStart
+returns c = written-end (omega arith) (c .before .loop .inv)
 
 pub found-start-spec : {M : Type 1} → statement M
 found-start-spec =

@@ -7,8 +7,9 @@ use native.Mathlib.Omega.{arith}
 use lib.ListN.{length}
 use Rattle.wellfounded.specs.Lists.{count, anyBelow}
 use Rattle.wellfounded.proofs.Lists.{count-le}
+use Rattle.tables.proofs.MarkLaws.{counted-pass, counted-fail}
 use Rattle.rounds.specs.Rounds.{decides, negatedBecomesTrue}
-use Rattle.rounds.proofs.RoundLaws.{counted-pass, counted-fail, some-pass, some-fail}
+use Rattle.rounds.proofs.RoundLaws.{some-pass, some-fail}
 use Rattle.rounds.proofs.rounds.changes.Statement.{statement}
 use Rattle.rounds.proofs.rounds.changes.Tie as tie
 

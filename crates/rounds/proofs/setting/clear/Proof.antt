@@ -1,22 +1,22 @@
 -- `rounds::setting::clear` meets its contract: the entries passed are 0.
 -- Assumes nothing.
-use Prim.Native.Nat.{_-_, _≤_}
+use Prim.Native.Nat.{_-_}
 use mathlib.Core.Path.{refl, _∙_}
 use native.Mathlib.Omega.{arith}
 use lib.ListN.{length}
-use Rattle.rounds.proofs.InPlace.{Written, written-start, written-turn, written-end}
-use Rattle.rounds.proofs.SettingLaws.{zeros}
+use Rattle.founding.proofs.InPlace.{Written, written-start, written-turn, written-end}
+use Rattle.wellfounded.proofs.Lists.{tabulate-replicate}
 use Rattle.rounds.proofs.setting.clear.Statement.{statement}
 use Rattle.rounds.proofs.setting.clear.Tie as tie
 
 abbrev Inv-loop : tie.InvT-loop
-Inv-loop entries₀ i₀ entries i = (i ≤ length entries₀) × Written (λ k. 0) entries₀ i entries
+Inv-loop entries₀ i₀ entries i = Written (λ k. 0) entries₀ i entries
 
 abbrev μ-loop : tie.MeasureT-loop
 μ-loop entries₀ i₀ entries i = length entries₀ - i
 
 loop-holds : tie.Need-loop-holds Inv-loop μ-loop
-loop-holds c = (omega arith, written-start)
+loop-holds c = written-start
 
 mul-entries : tie.Need-mul-entries Inv-loop μ-loop
 mul-entries c = omega arith
@@ -31,13 +31,13 @@ loop-less : tie.Need-loop-less Inv-loop μ-loop
 loop-less c = omega arith
 
 loop-again : tie.Need-loop-again Inv-loop μ-loop
-loop-again c = (omega arith, written-turn (omega arith) refl (c .before .loop .inv .1))
+loop-again c = written-turn (omega arith) refl (c .before .loop .inv)
 
 same-length : tie.Need-same-length Inv-loop μ-loop
-same-length c = c .before .loop .inv .1 .long
+same-length c = c .before .loop .inv .long
 
 returns : tie.Need-returns Inv-loop μ-loop
-returns c = written-end (omega arith) (c .before .loop .inv .1) ∙ zeros _
+returns c = written-end (omega arith) (c .before .loop .inv) ∙ tabulate-replicate _ 0
 
 pub clear-spec : {M : Type 1} → statement M
 clear-spec =

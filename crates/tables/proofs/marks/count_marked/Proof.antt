@@ -4,10 +4,11 @@ use Prim.Native.Nat.{_-_, _≤_}
 use mathlib.Core.Path.{_≡_, refl, _∙_}
 use mathlib.Core.Logic.{⊎-elim}
 use native.Mathlib.Omega.{arith}
+use borrow.Author.Tests.{eq-eqb, ne-eqb}
 use Rattle.wellfounded.specs.Lists.{count}
 use Rattle.wellfounded.proofs.Lists.{count-le}
 use Rattle.tables.specs.Marks.{isMarked}
-use Rattle.tables.proofs.MarkLaws.{count-up, count-stay}
+use Rattle.tables.proofs.MarkLaws.{counted-pass, counted-fail}
 use Rattle.tables.proofs.marks.count_marked.Statement.{statement}
 use Rattle.tables.proofs.marks.count_marked.Tie as tie
 
@@ -34,9 +35,10 @@ loop-less : tie.Need-loop-less Inv-loop μ-loop
 loop-less c = omega arith
 
 loop-again : tie.Need-loop-again Inv-loop μ-loop
+unfolding isMarked
 loop-again c =
     let so = c .before .before .before .loop .inv .1 in
-    (omega arith, ⊎-elim (λ w. w .1 ∙ count-up _ _ _ so (w .0 .taken)) (λ w. w .1 ∙ count-stay _ _ _ so (w .0 .left)) (c .if1 .came))
+    (omega arith, ⊎-elim (λ w. w .1 ∙ counted-pass _ _ _ so (eq-eqb _ _ (w .0 .taken))) (λ w. w .1 ∙ counted-fail _ _ _ so (ne-eqb _ _ (w .0 .left))) (c .if1 .came))
 
 returns : tie.Need-returns Inv-loop μ-loop
 returns c = let e : c .before .loop .atom ≡ c .before .before .args .size = omega arith in rw (← e) (c .before .loop .inv .1)

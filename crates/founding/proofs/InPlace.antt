@@ -13,6 +13,7 @@ use Rattle.wellfounded.proofs.Lists.{length-tabulate, getD-tabulate}
 
 -- The loop has come to i.
 pub record Written (f : ℕ → ℕ) (before : List ℕ) (i : ℕ) (now : List ℕ) : Type 0 where
+  pub low : i ≤ length before
   pub long : length now ≡ length before
   pub done : (k : ℕ) → k < i → getD now k 0 ≡ f k
   pub left : (k : ℕ) → i ≤ k → getD now k 0 ≡ getD before k 0
@@ -25,22 +26,23 @@ below f i now here earlier k l =
 
 module _ {f : ℕ → ℕ} {before : List ℕ} where
   pub written-start : Written f before 0 before
-  written-start = record { long = refl; done = λ k l. absurd (omega arith); left = λ k l. refl }
+  written-start = record { low = omega arith; long = refl; done = λ k l. absurd (omega arith); left = λ k l. refl }
 
   -- A turn that stores the value,
   pub written-turn : {i value : ℕ} {now : List ℕ} → i < length before → value ≡ f i → Written f before i now → Written f before (i + 1) (set now i value)
   written-turn {i} {value} {now} l e w =
       let within : i < length now = omega (arith, w .long) in
       record {
+        low = omega arith;
         long = length-set now i value ∙ w .long;
         done = below f i (set now i value) (getD-set-same now i value 0 within ∙ e) (λ k b. getD-set-other now i k value 0 (λ s. omega arith) ∙ w .done k b);
         left = λ k h. getD-set-other now i k value 0 (λ s. omega arith) ∙ w .left k (omega arith);
       }
 
   -- and one that leaves an entry which has it.
-  pub written-skip : {i : ℕ} {now : List ℕ} → getD before i 0 ≡ f i → Written f before i now → Written f before (i + 1) now
-  written-skip {i} {now} e w =
-      record { long = w .long; done = below f i now (w .left i (omega arith) ∙ e) (w .done); left = λ k h. w .left k (omega arith) }
+  pub written-skip : {i : ℕ} {now : List ℕ} → i < length before → getD before i 0 ≡ f i → Written f before i now → Written f before (i + 1) now
+  written-skip {i} {now} l e w =
+      record { low = omega arith; long = w .long; done = below f i now (w .left i (omega arith) ∙ e) (w .done); left = λ k h. w .left k (omega arith) }
 
   pub written-end : {i : ℕ} {now : List ℕ} → length before ≤ i → Written f before i now → now ≡ tabulate (length before) f
   written-end {i} {now} h w =
