@@ -192,25 +192,33 @@ fn open_atoms(name: &[u8], atoms: usize, valued: usize, levelled: usize) {
     }
 }
 
-pub fn run_bad_input() {
+// Numbers of atoms at their limits and past them, and values and levels of other numbers.
+fn run_atoms() {
     open_atoms(b"no-atoms", 0, 0, 0);
     open_atoms(b"1024-atoms", 1024, 1024, 1024);
     open_atoms(b"1025-atoms", 1025, 1025, 1025);
     open_atoms(b"values-too-short", 2, 1, 2);
     open_atoms(b"levels-too-long", 2, 2, 3);
+}
+
+// Tables of literals and rules at their limits, past them, and of no whole rows.
+fn run_rule_sizes() {
     sizes(b"16384-literals", 0, 16384, 0);
     sizes(b"16385-literals", 0, 16385, 0);
     sizes(b"2048-rules-at-level-0", 6144, 0, 0);
     sizes(b"2049-rules", 6147, 0, 0);
     sizes(b"no-whole-rule-rows", 4, 0, 0);
+}
+
+// The same of clauses, and minutes that are missing.
+fn run_clause_sizes() {
     sizes(b"2048-empty-clauses", 0, 0, 4096);
     sizes(b"2049-clauses", 0, 0, 4098);
     sizes(b"no-whole-clause-rows", 0, 0, 1);
     minutes_missing(b"minutes-missing");
-    run_bad_rows();
-    run_bad_claims();
 }
 
+// Rows of rules and clauses, and literals, out of range.
 fn run_bad_rows() {
     rule_row(b"head-out-of-range", 1, 0, 0);
     rule_row(b"rule-past-the-end", 0, 65535, 65535);
@@ -219,6 +227,10 @@ fn run_bad_rows() {
     clause_row(b"clause-past-the-end", 0, 1, 1);
     clause_row(b"clause-literal-out-of-range", 2, 0, 1);
     unused(b"unused-literal-out-of-range", 1, 2);
+}
+
+// Load rows at the ends of their ranges and past them.
+fn run_bad_loads() {
     load_row(b"load-past-the-end", 0, 0, 2147483647, 2147483647, 6);
     load_row(b"negative-start", 0, 0, -2147483647, 0, 6);
     load_row(b"negative-count", 0, 0, 0, -1, 6);
@@ -229,6 +241,7 @@ fn run_bad_rows() {
     load_row(b"minutes-out-of-range", 0, 0, 0, 0, 1441);
 }
 
+// Values and levels that are none, or wrong.
 fn run_bad_claims() {
     values_and_levels(b"right", 0, 1, 0, 1);
     values_and_levels(b"value-2", 0, 2, 0, 1);
@@ -237,13 +250,33 @@ fn run_bad_claims() {
     values_and_levels(b"level-0-at-a-defined-atom", 0, 1, 0, 0);
     values_and_levels(b"level-above-D", 0, 1, 0, 2);
     values_and_levels(b"fact-claimed-false", 0, 0, 0, 1);
+}
+
+// Rows that overlap, and clauses that fail.
+fn run_clauses() {
     overlapping(b"overlapping-rows", 1, 0);
     overlapping(b"overlapping-rows-clause-fails", 0, 0);
     overlapping(b"overlapping-rows-claimed-true", 1, 1);
     clause_row(b"empty-clause", 0, 0, 0);
     clause_row(b"clause-of-a-false-literal", 1, 0, 1);
+}
+
+// Minutes rounded to tenths of an hour, and bounds that nothing is between.
+fn run_loads() {
     load_row(b"tenths-of-3-minutes", 1, 1, 0, 1, 3);
     load_row(b"tenths-of-minus-3-minutes", -1, -1, 0, 1, -3);
     load_row(b"tenths-of-2-minutes", 1, 1, 0, 1, 2);
     load_row(b"low-above-high", 1, 0, 0, 0, 6);
+}
+
+// The samples of each function are few: what is known of every one before is carried along while one is proved.
+pub fn run_bad_input() {
+    run_atoms();
+    run_rule_sizes();
+    run_clause_sizes();
+    run_bad_rows();
+    run_bad_loads();
+    run_bad_claims();
+    run_clauses();
+    run_loads();
 }

@@ -75,16 +75,31 @@ fn either_or(values: &[u8], levels: &[u16]) -> Verdict {
     rules_alone(2, &rules, &literals, values, levels)
 }
 
-pub fn run_claims() {
+// Claims on book A.
+fn run_book_a() {
     show(b"A", book_a(10, &[0u8, 0, 0, 1], &[0u16, 1, 1, 2]));
     show(b"A-open-0", book_a(10, &[1u8, 1, 1, 0], &[0u16, 1, 2, 2]));
     show(b"P3", book_a(10, &[0u8, 1, 1, 0], &[0u16, 1, 2, 2]));
     show(b"P4", book_a(10, &[0u8, 1, 1, 0], &[0u16, 2, 1, 2]));
+}
+
+// Claims on one atom.
+fn run_one_atom() {
     show(b"P6", self_support(&[0u8], &[1u16]));
     show(b"P7", fact(&[1u8], &[1u16]));
     show(b"P7-false", fact(&[0u8], &[1u16]));
+}
+
+// Claims with other levels and with another bound.
+fn run_others() {
     show(b"P8-2-1", either_or(&[1u8, 0], &[2u16, 1]));
     show(b"P8-1-1", either_or(&[1u8, 0], &[1u16, 1]));
     show(b"P9", fact(&[1u8], &[2u16]));
     show(b"P10", book_a(9, &[0u8, 0, 0, 1], &[0u16, 1, 1, 2]));
+}
+
+pub fn run_claims() {
+    run_book_a();
+    run_one_atom();
+    run_others();
 }

@@ -50,57 +50,33 @@ fn show_built(
     show_text(name, &buffer[0..length]);
 }
 
+// One piece, so many times, between a beginning and an end.
+fn show_repeated(name: &[u8], beginning: &[u8], piece: &[u8], times: usize, end: &[u8]) {
+    show_built(name, beginning, piece, times, b"", 0, end);
+}
+
+// A book of one atom, with one line so many times.
+fn show_lines(name: &[u8], line: &[u8], times: usize) {
+    show_repeated(name, b"(atoms 1)\n", line, times, b"(open)\n");
+}
+
 // Rules at their limit and one past it.
 fn run_rules() {
-    show_built(
-        b"2048-rules",
-        b"(atoms 1)\n",
-        b"(rule 0)\n",
-        2048,
-        b"",
-        0,
-        b"(open)\n",
-    );
-    show_built(
-        b"2049-rules",
-        b"(atoms 1)\n",
-        b"(rule 0)\n",
-        2049,
-        b"",
-        0,
-        b"(open)\n",
-    );
-    show_built(
+    show_lines(b"2048-rules", b"(rule 0)\n", 2048);
+    show_lines(b"2049-rules", b"(rule 0)\n", 2049);
+    show_repeated(
         b"2049th-rule-after-a-clause",
         b"(atoms 1)\n",
         b"(rule 0)\n",
         2048,
-        b"",
-        0,
         b"(clause)\n(rule 0)\n(open)\n",
     );
 }
 
 // Clauses and the literals of rules and clauses together at their limits and one past them.
 fn run_clauses() {
-    show_built(
-        b"2048-clauses",
-        b"(atoms 1)\n",
-        b"(clause)\n",
-        2048,
-        b"",
-        0,
-        b"(open)\n",
-    );
-    show_built(
-        b"2049-clauses",
-        b"(atoms 1)\n",
-        b"(clause)\n",
-        2049,
-        b"",
-        0,
-        b"(open)\n",
-    );
+    show_lines(b"2048-clauses", b"(clause)\n", 2048);
+    show_lines(b"2049-clauses", b"(clause)\n", 2049);
     show_built(
         b"16384-literals",
         b"(atoms 1)\n",
@@ -123,73 +99,45 @@ fn run_clauses() {
 
 // Load lines and their terms at their limits and one past them.
 fn run_loads() {
-    show_built(
-        b"64-loads",
-        b"(atoms 1)\n",
-        b"(load 0 0)\n",
-        64,
-        b"",
-        0,
-        b"(open)\n",
-    );
-    show_built(
-        b"65-loads",
-        b"(atoms 1)\n",
-        b"(load 0 0)\n",
-        65,
-        b"",
-        0,
-        b"(open)\n",
-    );
-    show_built(
+    show_lines(b"64-loads", b"(load 0 0)\n", 64);
+    show_lines(b"65-loads", b"(load 0 0)\n", 65);
+    show_repeated(
         b"4096-terms",
         b"(atoms 1)\n(load 0 0",
         b" (0 0)",
         4096,
-        b"",
-        0,
         b")\n(open)\n",
     );
-    show_built(
+    show_repeated(
         b"4097-terms",
         b"(atoms 1)\n(load 0 0",
         b" (0 0)",
         4096,
-        b"",
-        0,
         b")\n(load 0 0 (0 0))\n(open)\n",
     );
 }
 
-// Claim pairs, digits and bytes at their limits and one past them.
+// Claim pairs at their limit and one past it, and a number of 5,000 digits.
 fn run_long_lines() {
-    show_built(
+    show_repeated(
         b"1024-claim-pairs",
         b"(atoms 1024)\n(claim",
         b" (0 0)",
         1024,
-        b"",
-        0,
         b")\n",
     );
-    show_built(
+    show_repeated(
         b"1025-claim-pairs",
         b"(atoms 1024)\n(claim",
         b" (0 0)",
         1025,
-        b"",
-        0,
         b")\n",
     );
-    show_built(
-        b"5000-digits",
-        b"(atoms 1",
-        b"0",
-        4999,
-        b"",
-        0,
-        b")\n(open)\n",
-    );
+    show_repeated(b"5000-digits", b"(atoms 1", b"0", 4999, b")\n(open)\n");
+}
+
+// Bytes at their limit and one past it.
+fn run_bytes() {
     show_built(
         b"65535-bytes",
         b"(atoms 1024)\n(clause",
@@ -215,4 +163,5 @@ pub fn run_built_texts() {
     run_clauses();
     run_loads();
     run_long_lines();
+    run_bytes();
 }

@@ -122,10 +122,10 @@ returns c =
     refused-comes (s .args .book) (tables s) (c .before .enum-told .given .1) (c .verdict-alone .ensures)
 
 same-length : tie.Need-same-length
-same-length c = search needs
+same-length c = c .before .before .before .before .evaluate-book .kept .1 .1 .1 .1 .1 .1 .1 .0
 
 same-length-2 : tie.Need-same-length-2
-same-length-2 c = search needs
+same-length-2 c = c .before .before .before .before .evaluate-book .kept .1 .1 .1 .1 .1 .1 .1 .1 .0
 
 returns-2 : tie.Need-returns-2
 unfolding lentTables

@@ -1,9 +1,12 @@
 -- `outcome::evaluate_book` meets its contract: the evaluation is made at the fronts of the values and levels.
 -- Assumes nothing.
+use Prim.Native.Nat.{_-_}
 use mathlib.Core.Path.{sym, _∙_}
 use mathlib.Core.Bool.{true, false}
 use native.Mathlib.Nat.{sub-zero}
 use native.Mathlib.Omega.{arith}
+use lib.ListN.{length}
+use lib.Seq.{length-front}
 use borrow.Author.Needs.{needs}
 use Rattle.tables.specs.Sound.{lent}
 use Rattle.outcome.proofs.OutcomeLaws.{evaluation-comes}
@@ -51,10 +54,14 @@ is-made-requires : tie.Need-is-made-requires
 is-made-requires c κs = search needs
 
 same-length : tie.Need-same-length
-same-length c = search needs
+same-length c =
+    let e = evaluated (c .before) in
+    length-front (began e .args .values .now) (e .evaluate .last .1 .1 .1 .1 .1 .1 .1 .1 .0) (length (began e .args .given .now) - 0) (e .evaluate .kept .1 .1 .1 .1 .1 .1 .1 .1 .0)
 
 same-length-2 : tie.Need-same-length-2
-same-length-2 c = search needs
+same-length-2 c =
+    let e = evaluated (c .before) in
+    length-front (began e .args .levels .now) (e .evaluate .last .1 .1 .1 .1 .1 .1 .1 .1 .1 .0) (length (began e .args .given .now) - 0) (e .evaluate .kept .1 .1 .1 .1 .1 .1 .1 .1 .1 .0)
 
 returns : tie.Need-returns
 unfolding lent
@@ -65,10 +72,14 @@ returns c =
     (e .evaluate .ensures)
 
 same-length-3 : tie.Need-same-length-3
-same-length-3 c = search needs
+same-length-3 c =
+    let e = evaluated (c .before) in
+    length-front (began e .args .values .now) (e .evaluate .last .1 .1 .1 .1 .1 .1 .1 .1 .0) (length (began e .args .given .now) - 0) (e .evaluate .kept .1 .1 .1 .1 .1 .1 .1 .1 .0)
 
 same-length-4 : tie.Need-same-length-4
-same-length-4 c = search needs
+same-length-4 c =
+    let e = evaluated (c .before) in
+    length-front (began e .args .levels .now) (e .evaluate .last .1 .1 .1 .1 .1 .1 .1 .1 .1 .0) (length (began e .args .given .now) - 0) (e .evaluate .kept .1 .1 .1 .1 .1 .1 .1 .1 .1 .0)
 
 returns-2 : tie.Need-returns-2
 unfolding lent

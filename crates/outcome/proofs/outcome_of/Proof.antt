@@ -72,10 +72,10 @@ unfolding spaceOf lentTables fullSpace
 book-outcome-requires c κs = (text-read _ _ _ _ refl (was-read c .read-once .ensures) .fit, began (was-read c) .pre)
 
 same-length : tie.Need-same-length
-same-length c = search needs
+same-length c = c .before .before .before .before .book-outcome .kept .1 .1 .1 .1 .1 .1 .1 .1 .1 .0
 
 same-length-2 : tie.Need-same-length-2
-same-length-2 c = search needs
+same-length-2 c = c .before .before .before .before .book-outcome .kept .1 .1 .1 .1 .1 .1 .1 .1 .1 .1 .0
 
 returns : tie.Need-returns
 unfolding spaceOf lentTables fullSpace
