@@ -14,14 +14,14 @@ use Rattle.wellfounded.specs.Lists.{count}
 use Rattle.wellfounded.specs.Literals.{isHeld, valueAt}
 use Rattle.wellfounded.specs.Definitions.{Definition, definedCount}
 use Rattle.wellfounded.specs.Stages.{stage, closure, wellFoundedModel, stageOf, stagesOf}
-use Rattle.wellfounded.proofs.Tests.{clash, not-both, first, second}
-use Rattle.wellfounded.proofs.Lists.{count-le, le-or-lt}
+use Rattle.wellfounded.proofs.Tests.{clash, not-both, first, second, cond-false}
+use Rattle.wellfounded.proofs.Lists.{count-le, le-or-lt, length-tabulate, getD-tabulate}
 use Rattle.wellfounded.proofs.Stages.{stage-length}
 use Rattle.wellfounded.proofs.Closure.{closure-fixed, closure-first, closure-bound}
 use Rattle.tables.specs.Rows.{ruleCount, definitionOf}
 use Rattle.tables.specs.Marks.{isMarked, markWhere}
 use Rattle.founding.specs.Founding.{Founded}
-use Rattle.rounds.specs.Rounds.{firesBy, levelsAfter, decides, decidedValues}
+use Rattle.rounds.specs.Rounds.{firesBy, levelsAfter, decides, decidedValues, decidedLevels}
 use Rattle.rounds.proofs.NextStage.{decided-length, decided-at, decides-next, values-next}
 
 -- A count above 0 has counted a number, and one that has counted a number is above 0.
@@ -44,23 +44,34 @@ count-make (suc n) p a l h = ⊎-elim (λ (b : n ≤ a). here (omega arith)) (λ
     here : a ≡ n → 0 < cond (p n) 1 0 + count n p
     here e = rw (← e, h) (omega arith)
 
--- A round that decides no atom changes nothing.
+-- A round that decides no atom changes no value,
+none-decided : (s firing founded : List ℕ) → count (length s) (decides s firing founded) ≡ 0 → (a : ℕ) → a < length s → decides s firing founded a ≡ false
+none-decided s firing founded none a l = not-both _ (λ t. omega (arith, count-make (length s) (decides s firing founded) a l t))
+
 decides-none : (s firing founded : List ℕ) → count (length s) (decides s firing founded) ≡ 0 → decidedValues s firing founded ≡ s
 unfolding decides valueAt
 decides-none s firing founded none =
     ext-getD 2 _ _ (decided-length s firing founded)
     (λ a l.
     let within : a < length s = rw decided-length at l in
-    decided-at s firing founded a within ∙ step (isHeld (valueAt s a)) (isMarked firing a) (isMarked founded a) (fails a within))
+    decided-at s firing founded a within ∙ step (isHeld (valueAt s a)) (isMarked firing a) (isMarked founded a) (none-decided s firing founded none a within))
   where
-    fails : (a : ℕ) → a < length s → decides s firing founded a ≡ false
-    fails a l = not-both _ (λ t. omega (arith, count-make (length s) (decides s firing founded) a l t))
-
     step : {v : ℕ} (h f g : Bool) → (not h && (f || not g)) ≡ false → cond h v (cond f 1 (cond g v 0)) ≡ v
     step true f g e = refl
     step false true g e = absurd (clash refl e)
     step false false true e = refl
     step false false false e = absurd (clash refl e)
+
+-- and no level.
+pub levels-stay :
+    (level : ℕ) (s firing founded levels : List ℕ) → length levels ≡ length s → count (length s) (decides s firing founded) ≡ 0 →
+    decidedLevels level s firing founded levels ≡ levels
+unfolding decidedLevels
+levels-stay level s firing founded levels long none =
+    ext-getD 0 _ _ (length-tabulate _ _)
+    (λ a l.
+    let within : a < length levels = rw length-tabulate at l in
+    getD-tabulate (length levels) _ a 0 within ∙ cond-false _ _ (none-decided s firing founded none a (omega arith)))
 
 module _ (atoms : ℕ) (rules literals o : List ℕ) where
   abbrev d : Definition

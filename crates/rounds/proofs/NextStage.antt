@@ -23,8 +23,7 @@ use Rattle.tables.specs.Rows.{ruleCount, ruleHead, ruleBody, ruleAt, rulesOf, h
 use Rattle.tables.specs.Marks.{isMarked, markWhere}
 use Rattle.tables.proofs.MarkLaws.{fresh-marks}
 use Rattle.founding.specs.Founding.{Founded}
-use Rattle.rounds.specs.Rounds.{rowFires, firesBy, levelsAfter, occursNegated, startValues, decides, negatedBecomesTrue, decidedValues, decidedLevels}
-use Rattle.rounds.proofs.RoundLaws.{nextAt}
+use Rattle.rounds.specs.Rounds.{rowFires, firesBy, levelsAfter, occursNegated, startValues, decides, negatedBecomesTrue, decidedValue, decidedValues, decidedLevels}
 
 -- ── Lists and numbers ──
 
@@ -52,7 +51,7 @@ module _ (s firing founded : List ℕ) where
   unfolding decidedValues
   decided-length = length-tabulate _ _
 
-  pub decided-at : (a : ℕ) → a < length s → valueAt (decidedValues s firing founded) a ≡ nextAt s firing founded a
+  pub decided-at : (a : ℕ) → a < length s → valueAt (decidedValues s firing founded) a ≡ decidedValue s firing founded a
   unfolding decidedValues valueAt
   decided-at a l = getD-tabulate _ _ a 2 l
 

@@ -20,9 +20,9 @@ use Rattle.tables.specs.Rows.{ruleCount, definitionOf}
 use Rattle.tables.specs.Marks.{markWhere}
 use Rattle.tables.proofs.MarkLaws.{mark-length}
 use Rattle.founding.specs.Founding.{Founded, foundAll}
-use Rattle.rounds.specs.Rounds.{firesBy, occursNegated, levelsAfter, startValues, decides, decidedValues, decidedLevels, Changes, AtStage, Roomy, Started, RoundDone, RoundsDone}
+use Rattle.rounds.specs.Rounds.{firesBy, occursNegated, levelsAfter, startValues, decides, Decided, AtStage, Roomy, Started, RoundDone, RoundsDone}
 use Rattle.rounds.proofs.NextStage.{start-stage, levels-start, values-next, levels-next, quiet-round}
-use Rattle.rounds.proofs.AfterRounds.{no-change, some-change, levels-end, rounds-bound, rest-is-closure}
+use Rattle.rounds.proofs.AfterRounds.{levels-stay, no-change, some-change, levels-end, rounds-bound, rest-is-closure}
 use Rattle.founding.proofs.FoundedMarks.{found-all}
 use Rattle.rounds.proofs.FoundedKept.{founded-kept}
 
@@ -68,24 +68,26 @@ module _
     -- ── A round ──
 
     module _
-        {firing : List ℕ} {decided : ℕ} {renewed : Bool}
+        {level : ℕ} {firing : List ℕ} {decided : ℕ} {renewed : Bool} {values′ levels′ work′ : List ℕ}
         (marked : firing ≡ markWhere (firesBy rules literals values (ruleCount rules)) work)
-        (changed : Changes values firing founded negated decided renewed)
+        (done : Decided level founded negated firing values levels decided renewed values′ levels′)
+        (clear : work′ ≡ replicate (length firing) 0) (so : suc k ≡ level)
       where
         fired : firing ≡ markWhere (firesBy rules literals (stage d setting k) (ruleCount rules)) (replicate (length setting) 0)
         fired = rw (at .atValues, at .atWork) at marked
 
         many : decided ≡ count (length (stage d setting k)) (decides (stage d setting k) firing founded)
-        many = rw (at .atValues) at (changed .many)
+        many = rw (at .atValues) at (done .changes .many)
 
-        cleared : (after : List ℕ) → after ≡ replicate (length firing) 0 → after ≡ replicate (length setting) 0
-        cleared after e = rw (marked, mark-length, work-long) at e
+        cleared : work′ ≡ replicate (length setting) 0
+        cleared = rw (marked, mark-length, work-long) at clear
+
+        next-values : values′ ≡ stage d setting (suc k)
+        next-values = rw (at .atValues) at (done .values) ∙ values-next (length setting) rules literals setting k firing founded fired (at .foundedTells)
 
         -- If it decides nothing, the stage is the last.
-        pub round-last :
-            {work′ : List ℕ} → decided ≡ 0 → work′ ≡ replicate (length firing) 0 →
-            RoundDone rules literals setting k defined negated founded values levels work′ false
-        round-last {work′} none clear =
+        pub round-last : decided ≡ 0 → RoundDone rules literals setting k defined negated founded values′ levels′ work′ false
+        round-last none =
             record {
               next = λ e. absurd (clash e refl);
               last = λ e. (
@@ -97,78 +99,74 @@ module _
                   negatedTells = at .negatedTells;
                   foundedRoom = at .foundedRoom;
                   foundedTells = at .foundedTells;
-                  atValues = at .atValues;
-                  atLevels = at .atLevels;
-                  atWork = cleared work′ clear;
+                  atValues = next-values ∙ still;
+                  atLevels = done .stages ∙ levels-stay level values firing founded levels (levels-long ∙ sym values-long) (sym (done .changes .many) ∙ none) ∙ at .atLevels;
+                  atWork = cleared;
                   moved = at .moved;
                 },
-                no-change (length setting) rules literals setting k firing founded fired (at .foundedTells) (sym many ∙ none),
+                still,
               );
             }
+          where
+            still : stage d setting (suc k) ≡ stage d setting k
+            still = no-change (length setting) rules literals setting k firing founded fired (at .foundedTells) (sym many ∙ none)
 
         -- If it decides something, it comes to the next stage.
-        module _
-            {level : ℕ} {values′ levels′ work′ : List ℕ} (some : decided ≡ 0 → ⊥) (so : suc k ≡ level)
-            (setLevels : levels′ ≡ decidedLevels level values firing founded levels) (setValues : values′ ≡ decidedValues values firing founded)
-            (clear : work′ ≡ replicate (length firing) 0)
-          where
-            next-values : values′ ≡ stage d setting (suc k)
-            next-values = rw (at .atValues) at setValues ∙ values-next (length setting) rules literals setting k firing founded fired (at .foundedTells)
+        module _ (some : decided ≡ 0 → ⊥) where
+          next-levels : levels′ ≡ levelsAfter d setting (suc k)
+          next-levels =
+              rw (← so, at .atValues, at .atLevels) at (done .stages)
+              ∙ levels-next (length setting) rules literals setting k firing founded fired (at .foundedTells)
 
-            next-levels : levels′ ≡ levelsAfter d setting (suc k)
-            next-levels =
-                rw (← so, at .atValues, at .atLevels) at setLevels
-                ∙ levels-next (length setting) rules literals setting k firing founded fired (at .foundedTells)
+          next-moved : (j : ℕ) → j < suc k → stage d setting (suc j) ≡ stage d setting j → ⊥
+          next-moved j l =
+              ⊎-elim (λ (e : j ≡ k). rw e (some-change (length setting) rules literals setting k firing founded fired (at .foundedTells) positive)) (λ (b : j < k). at .moved j b)
+              (eq-or-lt-of-le (le-of-suc-le-suc l))
+            where
+              positive : 0 < count (length (stage d setting k)) (decides (stage d setting k) firing founded)
+              positive = rw many at (above decided some)
+                where
+                  above : (n : ℕ) → (n ≡ 0 → ⊥) → 0 < n
+                  above n h = omega arith
 
-            next-moved : (j : ℕ) → j < suc k → stage d setting (suc j) ≡ stage d setting j → ⊥
-            next-moved j l =
-                ⊎-elim (λ (e : j ≡ k). rw e (some-change (length setting) rules literals setting k firing founded fired (at .foundedTells) positive)) (λ (b : j < k). at .moved j b)
-                (eq-or-lt-of-le (le-of-suc-le-suc l))
-              where
-                positive : 0 < count (length (stage d setting k)) (decides (stage d setting k) firing founded)
-                positive = rw many at (above decided some)
-                  where
-                    above : (n : ℕ) → (n ≡ 0 → ⊥) → 0 < n
-                    above n h = omega arith
+          next-at :
+              (founded′ : List ℕ) → length founded′ ≡ maxAtoms → Founded d (stage d setting (suc k)) founded′ →
+              RoundDone rules literals setting k defined negated founded′ values′ levels′ work′ true
+          next-at founded′ room tells =
+              record {
+                next = λ e.
+                    record {
+                      few = at .few;
+                      rows = at .rows;
+                      definedRoom = at .definedRoom;
+                      definedTells = at .definedTells;
+                      negatedTells = at .negatedTells;
+                      foundedRoom = room;
+                      foundedTells = tells;
+                      atValues = next-values;
+                      atLevels = next-levels;
+                      atWork = cleared;
+                      moved = next-moved;
+                    };
+                last = λ e. absurd (clash refl e);
+              }
 
-            next-at :
-                (founded′ : List ℕ) → length founded′ ≡ maxAtoms → Founded d (stage d setting (suc k)) founded′ →
-                RoundDone rules literals setting k defined negated founded′ values′ levels′ work′ true
-            next-at founded′ room tells =
-                record {
-                  next = λ e.
-                      record {
-                        few = at .few;
-                        rows = at .rows;
-                        definedRoom = at .definedRoom;
-                        definedTells = at .definedTells;
-                        negatedTells = at .negatedTells;
-                        foundedRoom = room;
-                        foundedTells = tells;
-                        atValues = next-values;
-                        atLevels = next-levels;
-                        atWork = cleared work′ clear;
-                        moved = next-moved;
-                      };
-                  last = λ e. absurd (clash refl e);
-                }
+          -- The founded marks still hold if no atom became true that occurs negated.
+          pub round-next : renewed ≡ false → RoundDone rules literals setting k defined negated founded values′ levels′ work′ true
+          round-next quiet =
+              next-at founded (at .foundedRoom)
+              (founded-kept (length setting) rules literals setting k
+              (quiet-round (length setting) rules literals setting k firing founded fired (at .foundedTells) negated (at .negatedTells) (at .few)
+              (rw (at .atValues) at (sym (done .changes .again) ∙ quiet))) founded (at .foundedTells))
 
-            -- The founded marks still hold if no atom became true that occurs negated.
-            pub round-next : renewed ≡ false → RoundDone rules literals setting k defined negated founded values′ levels′ work′ true
-            round-next quiet =
-                next-at founded (at .foundedRoom)
-                (founded-kept (length setting) rules literals setting k
-                (quiet-round (length setting) rules literals setting k firing founded fired (at .foundedTells) negated (at .negatedTells) (at .few)
-                (rw (at .atValues) at (sym (changed .again) ∙ quiet))) founded (at .foundedTells))
-
-            -- Otherwise they are made anew.
-            pub round-renewed :
-                {founded′ : List ℕ} → length founded′ ≡ length founded → founded′ ≡ foundAll rules literals defined values′ founded →
-                RoundDone rules literals setting k defined negated founded′ values′ levels′ work′ true
-            round-renewed {founded′} long anew =
-                next-at founded′ (long ∙ at .foundedRoom)
-                (rw (anew, next-values)
-                (found-all (length setting) rules literals setting (suc k) (at .rows) defined founded (at .definedTells) (rw (at .foundedRoom) (at .few))))
+          -- Otherwise they are made anew.
+          pub round-renewed :
+              {founded′ : List ℕ} → length founded′ ≡ length founded → founded′ ≡ foundAll rules literals defined values′ founded →
+              RoundDone rules literals setting k defined negated founded′ values′ levels′ work′ true
+          round-renewed {founded′} long anew =
+              next-at founded′ (long ∙ at .foundedRoom)
+              (rw (anew, next-values)
+              (found-all (length setting) rules literals setting (suc k) (at .rows) defined founded (at .definedTells) (rw (at .foundedRoom) (at .few))))
 
 -- ── The start and the end ──
 

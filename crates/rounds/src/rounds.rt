@@ -1,15 +1,12 @@
 // One round: what fires, what changes, and the next stage in place.
 ghost use mathlib.Core.Path.{_≡_};
-ghost use mathlib.Core.Bool.{cond};
-ghost use Prim.Native.Nat.{_≤_, _<_};
-ghost use lib.Dec.{eqb};
+ghost use Prim.Native.Nat.{_<_};
 ghost use lib.ListN.{length};
-ghost use Rattle.wellfounded.specs.Literals.{isHeld};
 ghost use Rattle.tables.specs.Rows.{ruleCount};
 ghost use Rattle.tables.specs.Scans.{RulesScannable};
 ghost use Rattle.tables.specs.Marks.{markWhere};
 ghost use Rattle.founding.specs.Founding.{Markable};
-ghost use Rattle.rounds.specs.Rounds.{rowFires, firesBy, decides, negatedBecomesTrue, Changes, decidedValues, decidedLevels};
+ghost use Rattle.rounds.specs.Rounds.{rowFires, firesBy, Decidable, AtomDecided, Decided};
 use tables::rows::rule_count;
 use tables::rows::rule_head;
 use tables::rows::rule_size;
@@ -52,92 +49,69 @@ pub fn mark_firing(rules: &[u16], literals: &[u16], values: &[u8], firing: &mut 
     }
 }
 
-// Whether the round decides the atom: it is undecided, and it fires or is not founded.
-fn is_decided(values: &[u8], firing: &[u16], founded: &[u8], atom: usize) -> bool
-    requires { ⌜ (atom < length (now values)) × (atom < length (now firing)) × (atom < length (now founded)) ⌝ }
-    ensures { λ r. ⌜ r ≡ decides (now (values .entry)) (now (firing .entry)) (now (founded .entry)) atom ⌝ }
+// Decides one atom, if it is undecided: it becomes true if it fires, and false if it is not founded. Answers what changed.
+fn decide_atom(
+    atom: usize,
+    level: u16,
+    founded: &[u8],
+    negated: &[u8],
+    firing: &[u16],
+    values: &mut [u8],
+    levels: &mut [u16],
+) -> Changed
+    requires { ⌜ (atom < length (now values)) × Decidable (now founded) (now negated) (now firing) (now values) (now levels) ⌝ }
+    ensures { λ r. ⌜ AtomDecided level (now (founded .entry)) (now (negated .entry)) (now (firing .entry)) (now (values .entry)) (now (levels .entry)) atom
+        (r .decided) (r .renewed) (now (values .exit)) (now (levels .exit)) ⌝ }
 {
     if values[atom] < 2 {
-        return false;
+        return Changed {
+            decided: 0,
+            renewed: false,
+        };
     }
     if firing[atom] == 1 {
-        return true;
+        values[atom] = 1;
+        levels[atom] = level;
+        return Changed {
+            decided: 1,
+            renewed: negated[atom] == 1,
+        };
     }
-    founded[atom] != 1
+    if founded[atom] != 1 {
+        values[atom] = 0;
+        levels[atom] = level;
+        return Changed {
+            decided: 1,
+            renewed: false,
+        };
+    }
+    Changed {
+        decided: 0,
+        renewed: false,
+    }
 }
 
-// Whether the atom becomes true in the round and occurs negated.
-fn is_renewing(values: &[u8], firing: &[u16], negated: &[u8], atom: usize) -> bool
-    requires { ⌜ (atom < length (now values)) × (atom < length (now firing)) × (atom < length (now negated)) ⌝ }
-    ensures { λ r. ⌜ r ≡ negatedBecomesTrue (now (values .entry)) (now (firing .entry)) (now (negated .entry)) atom ⌝ }
-{
-    if values[atom] < 2 {
-        return false;
-    }
-    if firing[atom] != 1 {
-        return false;
-    }
-    negated[atom] == 1
-}
-
-// What the round changes.
-pub fn changes(values: &[u8], firing: &[u16], founded: &[u8], negated: &[u8]) -> Changed
-    requires { ⌜ (length (now values) ≤ length (now firing)) × (length (now values) ≤ length (now founded)) × (length (now values) ≤ length (now negated)) ⌝ }
-    ensures { λ r. ⌜ Changes (now (values .entry)) (now (firing .entry)) (now (founded .entry)) (now (negated .entry)) (r .decided) (r .renewed) ⌝ }
+// Decides all atoms that the round decides, at the level. Answers what changed.
+pub fn decide(
+    level: u16,
+    founded: &[u8],
+    negated: &[u8],
+    firing: &[u16],
+    values: &mut [u8],
+    levels: &mut [u16],
+) -> Changed
+    requires { ⌜ Decidable (now founded) (now negated) (now firing) (now values) (now levels) ⌝ }
+    ensures { λ r. ⌜ Decided level (now (founded .entry)) (now (negated .entry)) (now (firing .entry)) (now (values .entry)) (now (levels .entry))
+        (r .decided) (r .renewed) (now (values .exit)) (now (levels .exit)) ⌝ }
 {
     let mut decided = 0;
     let mut renewed = false;
     let mut atom = 0;
     while atom < values.len() {
-        if is_decided(values, firing, founded, atom) {
-            decided += 1;
-        }
-        if is_renewing(values, firing, negated, atom) {
-            renewed = true;
-        }
+        let changed = decide_atom(atom, level, founded, negated, firing, values, levels);
+        decided += changed.decided;
+        renewed = renewed | changed.renewed;
         atom += 1;
     }
     Changed { decided, renewed }
-}
-
-// Gives the level to every atom that the round decides.
-pub fn set_levels(level: u16, values: &[u8], firing: &[u16], founded: &[u8], levels: &mut [u16])
-    requires { ⌜ (length (now levels) ≡ length (now values)) × (length (now values) ≤ length (now firing)) × (length (now values) ≤ length (now founded)) ⌝ }
-    ensures { λ r. ⌜ now (levels .exit) ≡ decidedLevels level (now (values .entry)) (now (firing .entry)) (now (founded .entry)) (now (levels .entry)) ⌝ }
-{
-    let mut atom = 0;
-    while atom < values.len() {
-        if is_decided(values, firing, founded, atom) {
-            levels[atom] = level;
-        }
-        atom += 1;
-    }
-}
-
-// The value after the round of an atom that has the value, by the marks of whether it fires and is founded.
-fn next_value(value: u8, fires: u16, founded: u8) -> u8
-    ensures { λ r. ⌜ r ≡ cond (isHeld value) value (cond (eqb fires 1) 1 (cond (eqb founded 1) value 0)) ⌝ }
-{
-    if value < 2 {
-        return value;
-    }
-    if fires == 1 {
-        return 1;
-    }
-    if founded == 1 {
-        return value;
-    }
-    0
-}
-
-// Makes the atoms true that fire, and false those that are not founded, of the undecided ones.
-pub fn set_values(firing: &[u16], founded: &[u8], values: &mut [u8])
-    requires { ⌜ (length (now values) ≤ length (now firing)) × (length (now values) ≤ length (now founded)) ⌝ }
-    ensures { λ r. ⌜ now (values .exit) ≡ decidedValues (now (values .entry)) (now (firing .entry)) (now (founded .entry)) ⌝ }
-{
-    let mut atom = 0;
-    while atom < values.len() {
-        values[atom] = next_value(values[atom], firing[atom], founded[atom]);
-        atom += 1;
-    }
 }

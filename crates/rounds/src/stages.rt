@@ -3,10 +3,8 @@ ghost use mathlib.Core.Path.{_≡_};
 ghost use Prim.Native.Nat.{ℕ, suc};
 ghost use mathlib.Core.List.{List};
 ghost use Rattle.rounds.specs.Rounds.{AtStage, RoundDone, RoundsDone, Roomy, Started};
-use super::rounds::changes;
+use super::rounds::decide;
 use super::rounds::mark_firing;
-use super::rounds::set_levels;
-use super::rounds::set_values;
 use super::setting::clear;
 use super::setting::mark_negated;
 use super::setting::start_values;
@@ -34,15 +32,12 @@ fn round(
         (now (founded .exit)) (now (values .exit)) (now (levels .exit)) (now (work .exit)) r) ⌝ }
 {
     mark_firing(rules, literals, values, work);
-    let changed = changes(values, work, founded, negated);
+    let changed = decide(level, founded, negated, work, values, levels);
+    clear(work);
     let decided = changed.decided;
     if decided == 0 {
-        clear(work);
         return false;
     }
-    set_levels(level, values, work, founded, levels);
-    set_values(work, founded, values);
-    clear(work);
     let renewed = changed.renewed;
     if renewed {
         mark_founded(rules, literals, defined, values, founded);
