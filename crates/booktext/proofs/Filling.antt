@@ -1,194 +1,191 @@
 -- Storing the entries of forms one by one fills the tables with all of them, and the state reached counts them.
 -- Assumes nothing.
 use Prim.Native.Nat.{ℕ, _+_, _≤_}
-use mathlib.Core.Path.{_≡_, refl, sym, ap, _∙_}
-use mathlib.Core.Bool.{true}
-use mathlib.Core.List.{List, [], _∷_, _++_, append-assoc, append-nil}
+use mathlib.Core.Path.{_≡_, refl, sym, ap, fun-ext, _∙_}
+use mathlib.Core.Bool.{Bool, true, false, cond, false≢true}
+use mathlib.Core.List.{List, [], _∷_, _++_, append-assoc}
 use native.Mathlib.Omega.{arith}
-use lib.ListN.{length, drop, length-append, length-drop, length-map}
-use lib.Seq.{sets, sets-eq, take-at, drop-append-add, drop-drop}
-use borrow.Author.Tests.{eqb-true}
+use lib.ListN.{length, length-append}
+use lib.Seq.{sets}
 use Rattle.wellfounded.proofs.Tests.{first, second}
-use Rattle.wellfounded.proofs.Lists.{length-tabulate}
-use Rattle.format.specs.Forms.{Form, atomsForm, ruleForm, clauseForm, loadForm, openForm, claimForm}
+use Rattle.format.specs.Forms.{Form}
+use Rattle.format.specs.Views.{kindIn}
 use Rattle.judging.specs.declared.reached.Reached.{Reached}
 use Rattle.judging.specs.declared.reached.Space.{Space}
-use Rattle.judging.specs.States.{start, added, kindIn, sizeIn, partsIn, after}
+use Rattle.judging.specs.LentTables.{Table, Rules, Literals, Clauses, Loads, LoadLiterals, Minutes, Values, Levels, roomIn}
+use Rattle.judging.specs.States.{inLoads, start, after, valuesCounted, levelsCounted, countIn}
 use Rattle.judging.specs.Judging.{partsInOrder}
-use Rattle.judging.specs.Books.{afterAll, passes, allPass}
-use Rattle.judging.proofs.Sequences.{may-phase}
-use Rattle.judging.proofs.Counts.{Held, held as room}
-use Rattle.judging.proofs.Accepted.{passing}
-use Rattle.forms.specs.Entries.{Contents, noEntries, entriesOf, store, storeForms, joined, entriesFrom, bookEntries, over, filled}
-use Rattle.forms.specs.Entries.{literalsIn, termsIn, ruleRow, clauseRow, loadRow, openValues, stateValues, stateLevels}
+use Rattle.judging.specs.Books.{afterAll, passes, allPass, IsBook}
+use Rattle.judging.proofs.TableLaws.{each-table, room-with, start-count}
+use Rattle.judging.proofs.StateLaws.{values-early, levels-early}
+use Rattle.judging.proofs.Sequences.{may-follow}
+use Rattle.judging.proofs.Walking.{after-more}
+use Rattle.judging.proofs.Counts.{fits-each}
+use Rattle.judging.proofs.Accepted.{passing, book-passed}
+use Rattle.forms.specs.Contents.{Contents, over, filled}
+use Rattle.forms.specs.Entries.{entriesOf, givenAnew, joinedBy, joined, entriesFrom, bookEntries}
+use Rattle.forms.specs.internal.Stores.{placeIn, store, storeForms}
+use Rattle.forms.proofs.EntryLaws.{rules-added, literals-added, clauses-added, loads-added, load-literals-added, minutes-added, values-added, levels-added}
+use Rattle.forms.proofs.OverLaws.{sets-behind, sets-anew, sets-front, over-none}
 use Rattle.booktext.specs.Answers.{spaceOf}
 
--- A state counts the entries of each table.
-pub record Counts (s : Reached) (used : Contents) : Type 0 where
-  pub rules : length (used .rules) ≡ s .rules
-  pub literals : length (used .literals) ≡ s .literals
-  pub clauses : length (used .clauses) ≡ s .clauses
-  pub loads : length (used .loads) ≡ s .loads
-  pub loadLiterals : length (used .loadLiterals) ≡ s .terms
-  pub minutes : length (used .minutes) ≡ s .terms
-  pub values : length (used .values) ≡ s .values
-  pub levels : length (used .levels) ≡ s .levels
+-- ── Stored one after the other ──
 
--- Values and levels are counted once a state form stood: an open form gives each atom a value, a claim a level too.
-pub record Stood (s : Reached) : Type 0 where
-  pub early : s .phase ≤ 3 → (s .values ≡ 0) × (s .levels ≡ 0)
-  pub opened : s .phase ≡ 4 → (s .values ≡ s .size) × (s .levels ≡ 0)
-  pub claimed : s .phase ≡ 5 → (s .values ≡ s .size) × (s .levels ≡ s .size)
+-- What is proved of each table that entries are laid down in holds of all those.
+pub each-laid :
+    (P : Table → Type 0) → P Rules → P Literals → P Clauses → P Loads → P LoadLiterals → P Minutes → (table : Table) →
+    givenAnew table ≡ false → P table
+unfolding givenAnew
+each-laid P r l c d o m =
+    each-table (λ table. givenAnew table ≡ false → P table) (λ e. r) (λ e. l) (λ e. c) (λ e. d) (λ e. o) (λ e. m)
+    (λ e. absurd (false≢true (sym e))) (λ e. absurd (false≢true (sym e)))
 
--- Entries stored after those that are there.
-module _ {A : Type 0} where
-  pub store-over :
-      (done xs held : List A) (n m : ℕ) → length done ≡ n → n + length xs ≡ m → m ≤ length held → sets (over done held) n xs ≡ over (done ++ xs) held
-  unfolding over
-  store-over done xs held n m e d h =
-      sets-eq xs (done ++ drop (length done) held) n (rw (length-append, length-drop) (omega arith))
-      ∙ rw (take-at done (drop (length done) held) n e, ← e, drop-append-add, drop-drop, length-append)
+-- There a form is counted by its entries.
+laid-counted :
+    (s : Reached) (f : Form) (table : Table) → givenAnew table ≡ false →
+    countIn (after s f) table ≡ countIn s table + length (entriesOf s f table)
+unfolding countIn entriesOf
+laid-counted s f =
+    each-laid (λ table. countIn (after s f) table ≡ countIn s table + length (entriesOf s f table)) (sym (rules-added s f))
+    (sym (literals-added s f)) (sym (clauses-added s f)) (sym (loads-added s f)) (sym (load-literals-added s f)) (sym (minutes-added s f))
 
--- What a form adds to the counts is as long as its entries.
-record Adds (s : Reached) (entries : Contents) (t : Reached) : Type 0 where
-  rules : s .rules + length (entries .rules) ≡ t .rules
-  literals : s .literals + length (entries .literals) ≡ t .literals
-  clauses : s .clauses + length (entries .clauses) ≡ t .clauses
-  loads : s .loads + length (entries .loads) ≡ t .loads
-  loadLiterals : s .terms + length (entries .loadLiterals) ≡ t .terms
-  minutes : s .terms + length (entries .minutes) ≡ t .terms
-  values : s .values + length (entries .values) ≡ t .values
-  levels : s .levels + length (entries .levels) ≡ t .levels
+-- Entries stored after a form's own are stored with them, whether or not there is room.
+stored-more :
+    (s : Reached) (f : Form) (more held : Contents) (table : Table) →
+    store (after s f) more (store s (entriesOf s f) held) table ≡ store s (joined (entriesOf s f) more) held table
+unfolding store placeIn joined joinedBy
+stored-more s f more held table = step (givenAnew table) refl
+  where
+    step :
+        (anew : Bool) → givenAnew table ≡ anew →
+        sets (sets (held table) (cond anew 0 (countIn s table)) (entriesOf s f table)) (cond anew 0 (countIn (after s f) table)) (more table)
+        ≡ sets (held table) (cond anew 0 (countIn s table)) (joinedBy anew (entriesOf s f table) (more table))
+    step true e = sets-anew (held table) (entriesOf s f table) (more table) 0
+    step false e = sets-behind (held table) (entriesOf s f table) (more table) _ _ (laid-counted s f table e)
 
-adding :
-    {s t : Reached} {entries : Contents} → s .rules + length (entries .rules) ≡ t .rules → s .literals + length (entries .literals) ≡ t .literals →
-    s .clauses + length (entries .clauses) ≡ t .clauses → s .loads + length (entries .loads) ≡ t .loads →
-    s .terms + length (entries .loadLiterals) ≡ t .terms → s .terms + length (entries .minutes) ≡ t .terms →
-    s .values + length (entries .values) ≡ t .values → s .levels + length (entries .levels) ≡ t .levels → Adds s entries t
-adding a b c d e f g h = record { rules = a; literals = b; clauses = c; loads = d; loadLiterals = e; minutes = f; values = g; levels = h }
+stored-all :
+    (s : Reached) (fs : List Form) (held : Contents) (table : Table) → storeForms s fs held table ≡ store s (entriesFrom s fs) held table
+unfolding storeForms entriesFrom store
+stored-all s [] held table = refl
+stored-all s (f ∷ fs) held table =
+    stored-all (after s f) fs (store s (entriesOf s f) held) table ∙ stored-more s f (entriesFrom (after s f) fs) held table
 
-adds : (s : Reached) (f : Form) → partsInOrder s f ≡ true → s .values ≡ 0 → s .levels ≡ 0 → Adds s (entriesOf s f) (after s f)
-unfolding partsInOrder after added kindIn sizeIn partsIn entriesOf literalsIn termsIn ruleRow clauseRow loadRow openValues stateValues stateLevels
-adds s (atomsForm n) o v k = adding (omega arith) (omega arith) (omega arith) (omega arith) (omega arith) (omega arith) (omega arith) (omega arith)
-adds s (ruleForm h ls) o v k = adding (omega arith) (rw length-map) (omega arith) (omega arith) (omega arith) (omega arith) (omega arith) (omega arith)
-adds s (clauseForm ls) o v k = adding (omega arith) (rw length-map) (omega arith) (omega arith) (omega arith) (omega arith) (omega arith) (omega arith)
-adds s (loadForm lo hi ts) o v k = adding (omega arith) (omega arith) (omega arith) (omega arith) (rw length-map) (rw length-map) (omega arith) (omega arith)
-adds s (openForm atoms) o v k = adding (omega arith) (omega arith) (omega arith) (omega arith) (omega arith) (omega arith) (rw length-tabulate (omega arith)) (omega arith)
-adds s (claimForm ps) o v k =
-    let e : length ps ≡ s .size = eqb-true (length ps) (s .size) o in
-    adding (omega arith) (omega arith) (omega arith) (omega arith) (omega arith) (omega arith) (rw length-map (omega arith)) (rw length-map (omega arith))
+-- ── Counted ──
 
--- After a form the state counts what was there and what the form adds.
-counts-on : {s t : Reached} {done entries : Contents} → Counts s done → Adds s entries t → Counts t (joined done entries)
-unfolding joined
-counts-on c a =
-    record {
-      rules = rw length-append (omega arith);
-      literals = rw length-append (omega arith);
-      clauses = rw length-append (omega arith);
-      loads = rw length-append (omega arith);
-      loadLiterals = rw length-append (omega arith);
-      minutes = rw length-append (omega arith);
-      values = rw length-append (omega arith);
-      levels = rw length-append (omega arith);
-    }
+laid-length :
+    (s : Reached) (fs : List Form) (table : Table) → givenAnew table ≡ false →
+    countIn (afterAll s fs) table ≡ countIn s table + length (entriesFrom s fs table)
+unfolding entriesFrom joined joinedBy afterAll
+laid-length s [] table e = omega arith
+laid-length s (f ∷ fs) table e =
+    rw (e, length-append) (omega (arith, laid-counted s f table e, laid-length (after s f) fs table e))
 
--- A form's entries, stored in tables that are filled with those before it.
-store-filled :
-    (s t : Reached) (done entries held : Contents) → Counts s done → Adds s entries t → s .values ≡ 0 → s .levels ≡ 0 → Held (spaceOf held) t →
-    store s entries (filled done held) ≡ filled (joined done entries) held
-unfolding store filled joined spaceOf
-store-filled s t done entries held c a v k r =
-    rw (
-      store-over (done .rules) (entries .rules) (held .rules) (s .rules) (t .rules) (c .rules) (a .rules) (r .rules),
-      store-over (done .literals) (entries .literals) (held .literals) (s .literals) (t .literals) (c .literals) (a .literals) (r .literals),
-      store-over (done .clauses) (entries .clauses) (held .clauses) (s .clauses) (t .clauses) (c .clauses) (a .clauses) (r .clauses),
-      store-over (done .loads) (entries .loads) (held .loads) (s .loads) (t .loads) (c .loads) (a .loads) (r .loads),
-      store-over (done .loadLiterals) (entries .loadLiterals) (held .loadLiterals) (s .terms) (t .terms) (c .loadLiterals) (a .loadLiterals)
-          (r .loadLiterals),
-      store-over (done .minutes) (entries .minutes) (held .minutes) (s .terms) (t .terms) (c .minutes) (a .minutes) (r .minutes),
-      store-over (done .values) (entries .values) (held .values) 0 (t .values) (c .values ∙ v) (ap (λ (n : ℕ). n + length (entries .values)) (sym v) ∙ a .values) (r .values),
-      store-over (done .levels) (entries .levels) (held .levels) 0 (t .levels) (c .levels ∙ k) (ap (λ (n : ℕ). n + length (entries .levels)) (sym k) ∙ a .levels) (r .levels),
-    )
+-- Before a state form neither values nor levels are given.
+no-entries : {A : Type 0} (xs : List A) → length xs ≡ 0 → xs ≡ []
+no-entries [] e = refl
+no-entries (x ∷ xs) e = absurd (omega arith)
 
--- After a form, if no state form stood before it, values and levels are counted as they should be.
-stood-on : (s : Reached) (f : Form) → s .values ≡ 0 → s .levels ≡ 0 → Stood (after s f)
-unfolding after added kindIn sizeIn partsIn
-stood-on s (atomsForm n) v k = record { early = λ p. (v, k); opened = λ p. absurd (omega arith); claimed = λ p. absurd (omega arith) }
-stood-on s (ruleForm h ls) v k = record { early = λ p. (v, k); opened = λ p. absurd (omega arith); claimed = λ p. absurd (omega arith) }
-stood-on s (clauseForm ls) v k = record { early = λ p. (v, k); opened = λ p. absurd (omega arith); claimed = λ p. absurd (omega arith) }
-stood-on s (loadForm lo hi ts) v k = record { early = λ p. (v, k); opened = λ p. absurd (omega arith); claimed = λ p. absurd (omega arith) }
-stood-on s (openForm atoms) v k = record { early = λ p. absurd (omega arith); opened = λ p. (refl, k); claimed = λ p. absurd (omega arith) }
-stood-on s (claimForm ps) v k = record { early = λ p. absurd (omega arith); opened = λ p. absurd (omega arith); claimed = λ p. (refl, refl) }
+no-values : (s : Reached) (f : Form) → partsInOrder s f ≡ true → after s f .phase ≤ inLoads → entriesOf s f Values ≡ []
+unfolding entriesOf
+no-values s f o l = no-entries _ (values-added s f o ∙ values-early (after s f) (omega arith))
 
--- Entries joined with more, and with none.
-joined-assoc : (a b c : Contents) → joined (joined a b) c ≡ joined a (joined b c)
-unfolding joined
-joined-assoc a b c = simp append-assoc
+no-levels : (s : Reached) (f : Form) → partsInOrder s f ≡ true → after s f .phase ≤ inLoads → entriesOf s f Levels ≡ []
+unfolding entriesOf
+no-levels s f o l = no-entries _ (levels-added s f o ∙ levels-early (after s f) (omega arith))
 
-joined-none : (a : Contents) → joined a noEntries ≡ a
-unfolding joined
-joined-none a = simp append-nil
+-- So the last form alone gives them, if the forms pass.
+module _ (space : Space) (f : Form) where
+  early : (s : Reached) (before : List Form) → allPass space s (before ++ (f ∷ [])) ≡ true → s .phase ≤ inLoads
+  unfolding allPass
+  early s [] p = may-follow (kindIn f) (s .phase) (passing space s f (first (passes space s f) _ p) .follows) .early
+  early s (g ∷ before) p = may-follow (kindIn g) (s .phase) (passing space s g (first (passes space s g) _ p) .follows) .early
 
--- Along the forms, from a state whose entries are stored.
-stored-on :
-    (held : Contents) (s : Reached) (fs : List Form) (done : Contents) → Counts s done → Stood s → allPass (spaceOf held) s fs ≡ true →
-    storeForms s fs (filled done held) ≡ filled (joined done (entriesFrom s fs)) held
-unfolding storeForms entriesFrom allPass
-stored-on held s [] done c w p = ap (λ (d : Contents). filled d held) (sym (joined-none done))
-stored-on held s (f ∷ fs) done c w p =
-    let here = passing (spaceOf held) s f (first (passes (spaceOf held) s f) _ p) in
-    let none = w .early (may-phase f (s .phase) (here .follows)) in
-    let a = adds s f (here .ordered) (none .0) (none .1) in
-    let kept =
-    store-filled s (after s f) done (entriesOf s f) held c a (none .0) (none .1) (room (spaceOf held) (after s f) (here .held)) in
-    ap (storeForms (after s f) fs) kept
-    ∙ stored-on held (after s f) fs (joined done (entriesOf s f)) (counts-on c a) (stood-on s f (none .0) (none .1))
-    (second (passes (spaceOf held) s f) _ p)
-    ∙ ap (λ (d : Contents). filled d held) (joined-assoc done (entriesOf s f) (entriesFrom (after s f) fs))
+  last-given :
+      (table : Table) → givenAnew table ≡ true →
+      ((s : Reached) (g : Form) → partsInOrder s g ≡ true → after s g .phase ≤ inLoads → entriesOf s g table ≡ []) →
+      (s : Reached) (before : List Form) → allPass space s (before ++ (f ∷ [])) ≡ true →
+      entriesFrom s (before ++ (f ∷ [])) table ≡ entriesOf (afterAll s before) f table
+  unfolding allPass entriesFrom joined joinedBy afterAll over
+  last-given table anew none s [] p = rw anew
+  last-given table anew none s (g ∷ before) p =
+      let here = passing space s g (first (passes space s g) _ p) in
+      let later = second (passes space s g) _ p in
+      rw (anew, none s g (here .ordered) (early (after s g) before later)) (over-none _ ∙ last-given table anew none (after s g) before later)
 
--- The same of the counts.
-counted-on :
-    (space : Space) (s : Reached) (fs : List Form) (done : Contents) → Counts s done → Stood s → allPass space s fs ≡ true →
-    Counts (afterAll s fs) (joined done (entriesFrom s fs)) × Stood (afterAll s fs)
-unfolding entriesFrom allPass afterAll
-counted-on space s [] done c w p = rw joined-none (c, w)
-counted-on space s (f ∷ fs) done c w p =
-    let here = passing space s f (first (passes space s f) _ p) in
-    let none = w .early (may-phase f (s .phase) (here .follows)) in
-    let a = adds s f (here .ordered) (none .0) (none .1) in
-    rw (← joined-assoc done (entriesOf s f) (entriesFrom (after s f) fs))
-    (counted-on space (after s f) fs (joined done (entriesOf s f)) (counts-on c a) (stood-on s f (none .0) (none .1)) (second (passes space s f) _ p))
+  pub last-values :
+      (s : Reached) (before : List Form) → allPass space s (before ++ (f ∷ [])) ≡ true →
+      entriesFrom s (before ++ (f ∷ [])) Values ≡ entriesOf (afterAll s before) f Values
+  unfolding givenAnew
+  last-values = last-given Values refl no-values
 
--- Before the first line nothing is counted.
-counts-start : Counts start noEntries
-unfolding start
-counts-start =
-    record {
-      rules = refl;
-      literals = refl;
-      clauses = refl;
-      loads = refl;
-      loadLiterals = refl;
-      minutes = refl;
-      values = refl;
-      levels = refl;
-    }
+  pub last-levels :
+      (s : Reached) (before : List Form) → allPass space s (before ++ (f ∷ [])) ≡ true →
+      entriesFrom s (before ++ (f ∷ [])) Levels ≡ entriesOf (afterAll s before) f Levels
+  unfolding givenAnew
+  last-levels = last-given Levels refl no-levels
 
-stood-start : Stood start
-unfolding start
-stood-start = record { early = λ p. (refl, refl); opened = λ p. absurd (omega arith); claimed = λ p. absurd (omega arith) }
+  pub last-passes :
+      (s : Reached) (before : List Form) → allPass space s (before ++ (f ∷ [])) ≡ true → passes space (afterAll s before) f ≡ true
+  unfolding allPass afterAll
+  last-passes s [] p = first (passes space s f) _ p
+  last-passes s (g ∷ before) p = last-passes (after s g) before (second (passes space s g) _ p)
+
+-- ── A book ──
+
+-- The forms of a book end with its state form.
+record Ends (fs : List Form) : Type 0 where
+  before : List Form
+  state : Form
+  whole : fs ≡ before ++ (state ∷ [])
+
+module _ (space : Space) (fs : List Form) (book : IsBook space fs) where
+  book-ends : Ends fs
+  book-ends =
+      let q = book .sequence in
+      record {
+        before = q .atoms ∷ (q .rules ++ (q .clauses ++ q .loads));
+        state = q .state;
+        whole = q .whole ∙ ap (λ (xs : List Form). q .atoms ∷ xs) (simp append-assoc);
+      }
+
+  -- The state reached counts the entries of each table: N values, and for a claim N levels.
+  pub used-counts : (table : Table) → length (bookEntries fs table) ≡ countIn (afterAll start fs) table
+  unfolding bookEntries givenAnew countIn entriesOf start
+  used-counts =
+      let ends = book-ends in
+      let s = afterAll start (ends .before) in
+      let passed = rw (ends .whole) at (book-passed space fs book .0 .passed) in
+      let ordered = passing space s (ends .state) (last-passes space (ends .state) start (ends .before) passed) .ordered in
+      let reached : afterAll start fs ≡ after s (ends .state) = ap (afterAll start) (ends .whole) ∙ after-more start (ends .before) (ends .state) in
+      let laid : (table : Table) → givenAnew table ≡ false → length (entriesFrom start fs table) ≡ countIn (afterAll start fs) table =
+      (λ table e. omega (arith, laid-length start fs table e, start-count table)) in
+      each-table (λ table. length (entriesFrom start fs table) ≡ countIn (afterAll start fs) table) (laid Rules refl) (laid Literals refl)
+      (laid Clauses refl) (laid Loads refl) (laid LoadLiterals refl) (laid Minutes refl)
+      (ap (λ (forms : List Form). length (entriesFrom start forms Values)) (ends .whole)
+      ∙ (ap length (last-values space (ends .state) start (ends .before) passed) ∙ (values-added s (ends .state) ordered ∙ ap valuesCounted (sym reached))))
+      (ap (λ (forms : List Form). length (entriesFrom start forms Levels)) (ends .whole)
+      ∙ (ap length (last-levels space (ends .state) start (ends .before) passed) ∙ (levels-added s (ends .state) ordered ∙ ap levelsCounted (sym reached))))
+
+-- Lent tables have the room that their lengths say.
+room-held : (held : Contents) (table : Table) → roomIn (spaceOf held) table ≡ length (held table)
+unfolding spaceOf
+room-held held table = room-with (λ each. length (held each)) table
+
+-- The first entries of every table stand at its front.
+place-start : (table : Table) → placeIn start table ≡ 0
+unfolding placeIn
+place-start table = step (givenAnew table)
+  where
+    step : (anew : Bool) → cond anew 0 (countIn start table) ≡ 0
+    step true = refl
+    step false = start-count table
 
 -- Stored form by form, the tables hold all entries of the forms, and beyond them what they held.
-pub stored-filled : (fs : List Form) (held : Contents) → allPass (spaceOf held) start fs ≡ true → storeForms start fs held ≡ filled (bookEntries fs) held
-unfolding bookEntries filled joined over
-stored-filled fs held p = stored-on held start fs noEntries counts-start stood-start p
-
--- The state reached counts the entries of the forms.
-pub used-counts : (space : Space) (fs : List Form) → allPass space start fs ≡ true → Counts (afterAll start fs) (bookEntries fs)
-unfolding bookEntries joined
-used-counts space fs p = counted-on space start fs noEntries counts-start stood-start p .0
-
--- So the values are as many as the atoms once a state form stood, and the levels after a claim; before there are none.
-pub used-stood : (space : Space) (fs : List Form) → allPass space start fs ≡ true → Stood (afterAll start fs)
-used-stood space fs p = counted-on space start fs noEntries counts-start stood-start p .1
+pub stored-filled :
+    (fs : List Form) (before : Contents) → IsBook (spaceOf before) fs → storeForms start fs before ≡ filled (bookEntries fs) before
+unfolding bookEntries filled store
+stored-filled fs before book = fun-ext λ table.
+    let room = fits-each (spaceOf before) (afterAll start fs) (book .held) table in
+    stored-all start fs before table
+    ∙ (rw (place-start table)
+    (sets-front (before table) (bookEntries fs table) (omega (arith, used-counts (spaceOf before) fs book table, room-held before table))))

@@ -1,7 +1,7 @@
 -- What the reader answers, and what it leaves in the lent tables.
 use Prim.Native.Nat.{ℕ}
 use mathlib.Core.Path.{_≡_}
-use mathlib.Core.Bool.{true, cond}
+use mathlib.Core.Bool.{cond}
 use mathlib.Core.List.{List}
 use lib.Dec.{eqb}
 use lib.ListN.{length}
@@ -12,27 +12,18 @@ use Rattle.judging.specs.declared.reached.Judged.{Judged}
 use Rattle.judging.specs.declared.reached.Judged.the-variants.{Passed, Failed}
 use Rattle.judging.specs.Judging.{judgeText, formsOf}
 use Rattle.judging.specs.States.{openStood, claimStood}
-use Rattle.forms.specs.Entries.{Contents, bookEntries, filled}
-use Rattle.lines.specs.Walks.{isPassed}
+use Rattle.judging.specs.LentTables.{spaceWith}
+use Rattle.forms.specs.Contents.{Contents, filled}
+use Rattle.forms.specs.Entries.{bookEntries}
 use Rattle.booktext.specs.declared.StateForm.{StateForm}
 use Rattle.booktext.specs.declared.StateForm.the-variants.{NoState, OpenState, ClaimState}
 use Rattle.booktext.specs.declared.Book.{Book}
 
 -- The lengths of the lent tables.
 unfoldable pub spaceOf : Contents → Space
-spaceOf held =
-    record {
-      rules = length (held .rules);
-      literals = length (held .literals);
-      clauses = length (held .clauses);
-      loads = length (held .loads);
-      «load_literals» = length (held .loadLiterals);
-      minutes = length (held .minutes);
-      values = length (held .values);
-      levels = length (held .levels);
-    }
+spaceOf held = spaceWith (λ table. length (held table))
 
--- The state form that a text has ended with, and the paper's number of each.
+-- The state form that a text has ended with, and the number by which C is told each.
 unfoldable pub stateOf : ℕ → StateForm
 stateOf phase = cond (eqb phase openStood) OpenState (cond (eqb phase claimStood) ClaimState NoState)
 
@@ -66,8 +57,3 @@ contentsAfter (Failed fault at) forms held = held
 pub record Reads (text : List ℕ) (before : Contents) (answer : Book) (afterwards : Contents) : Type 0 where
   pub answered : answer ≡ answerOf (judgeText (spaceOf before) text)
   pub written : afterwards ≡ contentsAfter (judgeText (spaceOf before) text) (formsOf text) before
-
--- What `read_once` promises: the same answer, and of an accepted text the same tables. What a refused text leaves in them is not said.
-pub record ReadsOnce (text : List ℕ) (before : Contents) (answer : Book) (afterwards : Contents) : Type 0 where
-  pub answered : answer ≡ answerOf (judgeText (spaceOf before) text)
-  pub written : isPassed (judgeText (spaceOf before) text) ≡ true → afterwards ≡ filled (bookEntries (formsOf text)) before

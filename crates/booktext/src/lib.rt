@@ -1,8 +1,8 @@
 // The reader of book texts.
 ghost use mathlib.Core.Path.{_≡_};
 ghost use Rattle.judging.specs.declared.reached.Judged.the-variants.{Failed};
-ghost use Rattle.forms.specs.Entries.{lentTables};
-ghost use Rattle.booktext.specs.Answers.{stateNumber, stateOf, answerOf, Reads, ReadsOnce};
+ghost use Rattle.forms.specs.Contents.{lentTables};
+ghost use Rattle.booktext.specs.Answers.{stateNumber, stateOf, answerOf, Reads};
 use judging::reached::CLAIM_STOOD;
 use judging::reached::Judged;
 use judging::reached::OPEN_STOOD;
@@ -11,9 +11,6 @@ use lines::judge;
 use lines::walk;
 use tables::Fault;
 use tables::Verdict;
-
-// A longer text is refused before anything in it is read.
-const MAX_BYTES: usize = 65535;
 
 // Which state form a text ended with.
 pub enum StateForm {
@@ -34,7 +31,7 @@ pub struct Book {
     pub state: StateForm,
 }
 
-// The paper's number of a state form.
+// The number by which C is told a state form.
 pub fn state_number(state: StateForm) -> usize
     ensures { λ r. ⌜ r ≡ stateNumber state ⌝ }
 {
@@ -75,7 +72,7 @@ fn state_of(phase: usize) -> StateForm
 }
 
 // The answer for what a text has come to.
-fn answer_of(judged: Judged) -> Book
+pub fn answer_of(judged: Judged) -> Book
     ensures { λ r. ⌜ r ≡ answerOf judged ⌝ }
 {
     match judged {
@@ -91,51 +88,6 @@ fn answer_of(judged: Judged) -> Book
             state: state_of(reached.phase),
         },
     }
-}
-
-// Reads a book into tables whose content is of no worth, as those that a call holds inside: the text is walked once.
-pub fn read_once(
-    text: &[u8],
-    rules: &mut [u16],
-    literals: &mut [u16],
-    clauses: &mut [u16],
-    loads: &mut [i32],
-    load_literals: &mut [u16],
-    minutes: &mut [i16],
-    values: &mut [u8],
-    levels: &mut [u16],
-) -> Book
-    ensures { λ r. ⌜ ReadsOnce (now (text .entry))
-        (lentTables (now (rules .entry)) (now (literals .entry)) (now (clauses .entry)) (now (loads .entry)) (now («load_literals» .entry))
-        (now (minutes .entry)) (now (values .entry)) (now (levels .entry))) r
-        (lentTables (now (rules .exit)) (now (literals .exit)) (now (clauses .exit)) (now (loads .exit)) (now («load_literals» .exit))
-        (now (minutes .exit)) (now (values .exit)) (now (levels .exit))) ⌝ }
-{
-    if MAX_BYTES < text.len() {
-        return refused_book(Fault::OutsideLimits, 0);
-    }
-    let space = Space {
-        rules: rules.len(),
-        literals: literals.len(),
-        clauses: clauses.len(),
-        loads: loads.len(),
-        load_literals: load_literals.len(),
-        minutes: minutes.len(),
-        values: values.len(),
-        levels: levels.len(),
-    };
-    answer_of(walk(
-        text,
-        space,
-        rules,
-        literals,
-        clauses,
-        loads,
-        load_literals,
-        minutes,
-        values,
-        levels,
-    ))
 }
 
 // Reads a book from its text. The tables of an accepted text hold its entries, and beyond them what they held; a refused
@@ -157,9 +109,6 @@ pub fn read(
         (lentTables (now (rules .exit)) (now (literals .exit)) (now (clauses .exit)) (now (loads .exit)) (now («load_literals» .exit))
         (now (minutes .exit)) (now (values .exit)) (now (levels .exit))) ⌝ }
 {
-    if MAX_BYTES < text.len() {
-        return refused_book(Fault::OutsideLimits, 0);
-    }
     let space = Space {
         rules: rules.len(),
         literals: literals.len(),
@@ -173,8 +122,9 @@ pub fn read(
     if let Judged::Failed(fault, position) = judge(text, space) {
         return refused_book(fault, position);
     }
-    read_once(
+    answer_of(walk(
         text,
+        space,
         rules,
         literals,
         clauses,
@@ -183,5 +133,5 @@ pub fn read(
         minutes,
         values,
         levels,
-    )
+    ))
 }

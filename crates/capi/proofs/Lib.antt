@@ -1,2 +1,3 @@
--- Laws of the answers for C.
+-- `Unpacking` says what the packed answers tell; `PackLaws` serves the functions.
+pub mod Unpacking
 pub mod PackLaws

@@ -1,72 +1,39 @@
 -- Laws of the answers for C: how large a packed verdict and a reader's counts are, and the seven counts in their places.
 -- Assumes nothing.
-use Prim.Native.Nat.{ℕ, _+_, _*_, _≤_}
+use Prim.Native.Nat.{ℕ, _+_, _*_, _≤_, _<_}
 use mathlib.Core.Path.{_≡_, refl}
-use mathlib.Core.Bool.{true}
 use mathlib.Core.List.{List, [], _∷_}
 use native.Mathlib.Omega.{arith}
 use lib.ListN.{length, set}
 use borrow.Author.Tests.{eq-eqb, ne-eqb}
-use Rattle.wellfounded.proofs.Tests.{first, second}
-use Rattle.tables.specs.declared.Fault.{Fault}
-use Rattle.tables.specs.declared.Fault.the-variants.{Malformed, OutsideLimits, OutOfOrder, NoSpace, TableSizes, RuleRow, ClauseRow, LoadRow}
-use Rattle.tables.specs.declared.Fault.the-variants.{Literal, LoadTerm, SliceLength, Value, Level, Unsupported, Unblocked, Undecided, FailingClause, FailingLoad}
 use Rattle.tables.specs.declared.Verdict.{Verdict}
-use Rattle.tables.specs.declared.Verdict.the-variants.{Accepted, Refused}
-use Rattle.tables.specs.Faults.{faultNumber, numberOf, positionOf}
-use Rattle.tables.specs.Limits.{maxAtoms}
+use Rattle.tables.specs.Faults.{positionOf}
+use Rattle.tables.specs.Limits.{maxAtoms, maxPosition}
 use Rattle.tables.specs.Sound.{Tables}
+use Rattle.tables.proofs.Numbers.{verdict-number}
 use Rattle.evaluator.specs.Evaluate.{evaluateOf, Answers}
-use Rattle.format.specs.Forms.{Form}
-use Rattle.judging.specs.declared.reached.Reached.{Reached}
 use Rattle.judging.specs.declared.reached.Space.{Space}
 use Rattle.judging.specs.declared.reached.Judged.{Judged}
 use Rattle.judging.specs.declared.reached.Judged.the-variants.{Passed, Failed}
-use Rattle.judging.specs.States.{start, after}
 use Rattle.judging.specs.Judging.{judgeText}
-use Rattle.judging.specs.Books.{afterAll, passes, allPass}
-use Rattle.judging.proofs.StateLaws.{after-size}
-use Rattle.judging.proofs.Counts.{Counted, counted as counts-of}
-use Rattle.judging.proofs.Accepted.{accepted-book, book-passed}
-use Rattle.forms.specs.Entries.{Contents}
+use Rattle.judging.proofs.Counts.{CountsWithin, counts-within}
+use Rattle.judging.proofs.Accepted.{accepted-book, accepted-size}
+use Rattle.forms.specs.Contents.{Contents}
 use Rattle.booktext.specs.declared.StateForm.{StateForm}
 use Rattle.booktext.specs.declared.StateForm.the-variants.{NoState, OpenState, ClaimState}
 use Rattle.booktext.specs.declared.Book.{Book}
 use Rattle.booktext.specs.Answers.{spaceOf, stateNumber, answerOf, Reads}
-use Rattle.outcome.proofs.Bounds.{evaluate-position, evaluate-rounds, text-position}
-use Rattle.capi.specs.Packing.{packed, packedRounds, counted, WithinBook, noAnswer, EvaluatedForC, sevenPlaces, ReadForC}
+use Rattle.evaluator.proofs.Positions.{evaluate-position, evaluate-rounds}
+use Rattle.booktext.proofs.Positions.{text-position}
+use Rattle.capi.specs.Packing.{packed, packedRounds, countsOf, noAnswer, EvaluatedForC, sevenPlaces, ReadForC}
+use Rattle.capi.specs.internal.Counts.{WithinBook}
 
 -- ── Packed verdicts ──
 
--- The paper's numbers end at 27.
-fault-small : (fault : Fault) → faultNumber fault ≤ 27
-fault-small Malformed = omega arith
-fault-small OutsideLimits = omega arith
-fault-small OutOfOrder = omega arith
-fault-small NoSpace = omega arith
-fault-small TableSizes = omega arith
-fault-small RuleRow = omega arith
-fault-small ClauseRow = omega arith
-fault-small LoadRow = omega arith
-fault-small Literal = omega arith
-fault-small LoadTerm = omega arith
-fault-small SliceLength = omega arith
-fault-small Value = omega arith
-fault-small Level = omega arith
-fault-small Unsupported = omega arith
-fault-small Unblocked = omega arith
-fault-small Undecided = omega arith
-fault-small FailingClause = omega arith
-fault-small FailingLoad = omega arith
-
-pub number-small : (verdict : Verdict) → numberOf verdict ≤ 27
-number-small Accepted = omega arith
-number-small (Refused fault position) = fault-small fault
-
--- A packed verdict is below 28 × 65,536.
-pub packed-small : (verdict : Verdict) → positionOf verdict ≤ 65535 → packed verdict ≤ 1835007
+-- A packed verdict is below 100 × 65,536.
+pub packed-small : (verdict : Verdict) → positionOf verdict ≤ maxPosition → packed verdict < 6553600
 unfolding packed
-packed-small verdict l = omega (arith, number-small verdict)
+packed-small verdict l = omega (arith, verdict-number verdict)
 
 -- ── The maker ──
 
@@ -74,7 +41,7 @@ module _
     (t : Tables) (setting values levels work : List ℕ) {verdict : Verdict} {rounds : ℕ} {valuesAfter levelsAfter workAfter : List ℕ}
     (a : Answers (evaluateOf t setting values levels work) verdict rounds valuesAfter levelsAfter workAfter) where
   -- Its rounds and its verdict's position are small.
-  pub made-small : (positionOf verdict ≤ 65535) × (rounds ≤ 1024)
+  pub made-small : (positionOf verdict ≤ maxPosition) × (rounds ≤ maxAtoms)
   made-small = (rw (a .verdictIs) (evaluate-position t setting values levels work), rw (a .roundsIs) (evaluate-rounds t setting values levels work))
 
   pub made-packed :
@@ -86,17 +53,6 @@ module _
 
 -- ── The reader's counts ──
 
--- The number of atoms stays within the limit.
-size-within : (space : Space) (s : Reached) (fs : List Form) → s .size ≤ maxAtoms → allPass space s fs ≡ true → afterAll s fs .size ≤ maxAtoms
-unfolding allPass passes afterAll
-size-within space s [] l h = l
-size-within space s (f ∷ fs) l h =
-    size-within space (after s f) fs (after-size s f l (first _ _ (first (passes space s f) _ h))) (second (passes space s f) _ h)
-
-start-size : start .size ≤ maxAtoms
-unfolding start
-start-size = omega arith
-
 -- Whatever a text is judged to be, its counts are within the limits of a book.
 pub answer-within : (space : Space) (text : List ℕ) → WithinBook (answerOf (judgeText space text))
 unfolding answerOf
@@ -105,11 +61,9 @@ answer-within space text = step (judgeText space text) refl
     step : (j : Judged) → judgeText space text ≡ j → WithinBook (answerOf j)
     step (Passed s) e =
         let found = accepted-book space text s e in
-        let passed = book-passed space (found .0) (found .1 .book) .0 .passed in
-        let few : s .size ≤ maxAtoms = rw (found .2) (size-within space start (found .0) start-size passed) in
-        let counts : Counted s = rw (found .2) (counts-of _ (found .1 .book .counts)) in
+        let counts : CountsWithin s = rw (found .2) (counts-within _ (found .1 .book .counts)) in
         record {
-          atoms = few;
+          atoms = accepted-size space text s e;
           rules = counts .rules;
           literals = counts .literals;
           clauses = counts .clauses;
@@ -123,7 +77,7 @@ module _ {text : List ℕ} {before : Contents} {book : Book} {afterwards : Conte
   pub read-within : WithinBook book
   read-within = rw (r .answered) (answer-within (spaceOf before) text)
 
-  pub read-position : positionOf (book .verdict) ≤ 65535
+  pub read-position : positionOf (book .verdict) ≤ maxPosition
   read-position = rw (r .answered) (text-position (spaceOf before) text)
 
 -- ── Seven places ──
@@ -149,14 +103,14 @@ seven-stored (_ ∷ _ ∷ _ ∷ _ ∷ _ ∷ _ ∷ _ ∷ _ ∷ l) h a b c d e f g
 
 -- With seven places the reader's call answers for the reader, and with any other number it writes nothing.
 module _ {text : List ℕ} {before : Contents} {answer : List ℕ} where
-  pub read-told :
+  pub read-answers :
       {book : Book} {afterwards : Contents} {code : ℕ} {answerAfter : List ℕ} → length answer ≡ 7 → Reads text before book afterwards →
-      code ≡ packed (book .verdict) → answerAfter ≡ counted book → ReadForC text before answer code afterwards answerAfter
+      code ≡ packed (book .verdict) → answerAfter ≡ countsOf book → ReadForC text before answer code afterwards answerAfter
   unfolding sevenPlaces
-  read-told seven r packs tells =
+  read-answers seven r packs counts =
       let is = eq-eqb (length answer) 7 seven in
-      record { answered = rw (is, ← (r .answered)) packs; told = rw (is, ← (r .answered)) tells; written = rw is (r .written) }
+      record { answered = rw (is, ← (r .answered)) packs; counts = rw (is, ← (r .answered)) counts; written = rw is (r .written) }
 
-  pub read-untold : (length answer ≡ 7 → ⊥) → ReadForC text before answer noAnswer before answer
+  pub read-unanswered : (length answer ≡ 7 → ⊥) → ReadForC text before answer noAnswer before answer
   unfolding sevenPlaces
-  read-untold other = let is = ne-eqb (length answer) 7 other in record { answered = rw is; told = rw is; written = rw is }
+  read-unanswered other = let is = ne-eqb (length answer) 7 other in record { answered = rw is; counts = rw is; written = rw is }

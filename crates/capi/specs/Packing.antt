@@ -1,5 +1,5 @@
 -- How the C calls pack their answers into one number.
-use Prim.Native.Nat.{ℕ, _+_, _*_, _≤_}
+use Prim.Native.Nat.{ℕ, _+_, _*_, _/_, _%_}
 use mathlib.Core.Path.{_≡_}
 use mathlib.Core.Bool.{Bool, cond}
 use mathlib.Core.List.{List, [], _∷_}
@@ -7,11 +7,8 @@ use lib.Dec.{eqb}
 use lib.ListN.{length}
 use Rattle.tables.specs.declared.Verdict.{Verdict}
 use Rattle.tables.specs.Faults.{numberOf, positionOf}
-use Rattle.tables.specs.Limits.{maxAtoms, maxRuleRows, maxClauseRows, maxLiterals, maxLoadRows, maxTerms}
-use Rattle.tables.specs.Rows.{ruleWidth, clauseWidth}
-use Rattle.tables.specs.Loads.{loadWidth}
 use Rattle.judging.specs.Judging.{formsOf, judgeText}
-use Rattle.forms.specs.Entries.{Contents}
+use Rattle.forms.specs.Contents.{Contents}
 use Rattle.booktext.specs.declared.Book.{Book}
 use Rattle.booktext.specs.Answers.{stateNumber, answerOf, spaceOf, contentsAfter}
 use Rattle.evaluator.specs.Evaluate.{Evaluation}
@@ -25,20 +22,11 @@ unfoldable pub packedRounds : Verdict → ℕ → ℕ
 packedRounds verdict rounds = rounds * 4294967296 + packed verdict
 
 -- What the reader counted: N, the entries of rules, literals, clauses, loads and terms, and the number of the state form.
-unfoldable pub counted : Book → List ℕ
-counted book =
+unfoldable pub countsOf : Book → List ℕ
+countsOf book =
     book .atoms ∷ book .rules ∷ book .literals ∷ book .clauses ∷ book .loads ∷ book .terms ∷ stateNumber (book .state) ∷ []
 
--- The counts are within the limits of a book.
-pub record WithinBook (book : Book) : Type 0 where
-  pub atoms : book .atoms ≤ maxAtoms
-  pub rules : book .rules ≤ maxRuleRows * ruleWidth
-  pub literals : book .literals ≤ maxLiterals
-  pub clauses : book .clauses ≤ maxClauseRows * clauseWidth
-  pub loads : book .loads ≤ maxLoadRows * loadWidth
-  pub terms : book .terms ≤ maxTerms
-
--- Answered where the counts have not seven places; no verdict packs to it.
+-- Answered where the counts have not seven places; no call's verdict packs to it (`Unpacking`, `check-unpacks` and those after it).
 abbrev pub noAnswer : ℕ
 noAnswer = 4294967295
 
@@ -53,7 +41,14 @@ pub record EvaluatedForC (e : Evaluation) (answer : ℕ) (values levels work : L
 unfoldable pub sevenPlaces : List ℕ → Bool
 sevenPlaces answer = eqb (length answer) 7
 
-pub record ReadForC (text : List ℕ) (before : Contents) (answer : List ℕ) (code : ℕ) (afterwards : Contents) (answerAfter : List ℕ) : Type 0 where
+pub record ReadForC
+    (text : List ℕ) (before : Contents) (answer : List ℕ) (code : ℕ) (afterwards : Contents) (answerAfter : List ℕ) : Type 0 where
   pub answered : code ≡ cond (sevenPlaces answer) (packed (answerOf (judgeText (spaceOf before) text) .verdict)) noAnswer
-  pub told : answerAfter ≡ cond (sevenPlaces answer) (counted (answerOf (judgeText (spaceOf before) text))) answer
+  pub counts : answerAfter ≡ cond (sevenPlaces answer) (countsOf (answerOf (judgeText (spaceOf before) text))) answer
   pub written : afterwards ≡ cond (sevenPlaces answer) (contentsAfter (judgeText (spaceOf before) text) (formsOf text) before) before
+
+-- What a packed verdict tells: the verdict's number and position, and that it is an answer.
+pub record Unpacks (verdict : Verdict) : Type 0 where
+  pub number : packed verdict / 65536 ≡ numberOf verdict
+  pub position : packed verdict % 65536 ≡ positionOf verdict
+  pub answers : packed verdict ≡ noAnswer → ⊥

@@ -2,13 +2,15 @@
 ghost use mathlib.Core.Path.{_≡_};
 ghost use Prim.Native.Nat.{_≤_};
 ghost use lib.ListN.{length};
+ghost use Rattle.tables.specs.Limits.{maxPosition};
 ghost use Rattle.tables.specs.Faults.{positionOf};
 ghost use Rattle.tables.specs.Sound.{lent};
 ghost use Rattle.checker.specs.Check.{checkOf};
 ghost use Rattle.evaluator.specs.Evaluate.{evaluateOf};
-ghost use Rattle.forms.specs.Entries.{lentTables};
+ghost use Rattle.forms.specs.Contents.{lentTables};
 ghost use Rattle.outcome.specs.Outcomes.{outcomeOf};
-ghost use Rattle.capi.specs.Packing.{packed, counted, WithinBook, EvaluatedForC, ReadForC};
+ghost use Rattle.capi.specs.Packing.{packed, countsOf, EvaluatedForC, ReadForC};
+ghost use Rattle.capi.specs.internal.Counts.{WithinBook};
 use booktext::Book;
 use booktext::read;
 use booktext::state_number;
@@ -18,13 +20,14 @@ use outcome::outcome_of;
 use tables::Verdict;
 use tables::number_of;
 use tables::position_of;
+use tables::sizes::MAX_ATOMS;
 
 // Answered where the counts have not seven places; no verdict packs to it.
 const NO_ANSWER: u32 = 4_294_967_295;
 
 // The verdict's number × 65,536 + its position; 0 if accepted.
 fn pack(verdict: Verdict) -> u32
-    requires { ⌜ positionOf verdict ≤ 65535 ⌝ }
+    requires { ⌜ positionOf verdict ≤ maxPosition ⌝ }
     ensures { λ r. ⌜ r ≡ packed verdict ⌝ }
 {
     (number_of(verdict) * 65536 + position_of(verdict)) as u32
@@ -35,8 +38,8 @@ fn pack(verdict: Verdict) -> u32
 pub extern "C" fn battenplum_verdict(text: &[u8]) -> u32
     ensures { λ r. ⌜ r ≡ packed (outcomeOf (now (text .entry)) .verdict) ⌝ }
 {
-    let mut values = [0u8; 1024];
-    let mut levels = [0u16; 1024];
+    let mut values = [0u8; MAX_ATOMS];
+    let mut levels = [0u16; MAX_ATOMS];
     let outcome = outcome_of(text, &mut values, &mut levels);
     let verdict = outcome.verdict;
     pack(verdict)
@@ -56,8 +59,8 @@ pub extern "C" fn battenplum_check(
     levels: &[u16],
 ) -> u32
     ensures { λ r. ⌜ r ≡ packed
-        (checkOf (lent n (now (rules .entry)) (now (literals .entry)) (now (clauses .entry)) (now (loads .entry)) (now («load_literals» .entry))
-        (now (minutes .entry))) (now (values .entry)) (now (levels .entry))) ⌝ }
+        (checkOf (lent n (now (rules .entry)) (now (literals .entry)) (now (clauses .entry)) (now (loads .entry))
+        (now («load_literals» .entry)) (now (minutes .entry))) (now (values .entry)) (now (levels .entry))) ⌝ }
 {
     pack(check(
         n,
@@ -88,8 +91,9 @@ pub extern "C" fn battenplum_evaluate(
     work: &mut [u16],
 ) -> u64
     ensures { λ r. ⌜ EvaluatedForC
-        (evaluateOf (lent n (now (rules .entry)) (now (literals .entry)) (now (clauses .entry)) (now (loads .entry)) (now («load_literals» .entry))
-        (now (minutes .entry))) (now («open_values» .entry)) (now (values .entry)) (now (levels .entry)) (now (work .entry)))
+        (evaluateOf (lent n (now (rules .entry)) (now (literals .entry)) (now (clauses .entry)) (now (loads .entry))
+        (now («load_literals» .entry)) (now (minutes .entry)))
+        (now («open_values» .entry)) (now (values .entry)) (now (levels .entry)) (now (work .entry)))
         r (now (values .exit)) (now (levels .exit)) (now (work .exit)) ⌝ }
 {
     let answer = evaluate(
@@ -109,11 +113,11 @@ pub extern "C" fn battenplum_evaluate(
     answer.rounds as u64 * 4_294_967_296 + pack(verdict) as u64
 }
 
-// Tells the seven counts in their places.
-fn tell(answer: &mut [u32], book: Book)
+// Puts the seven counts in their places.
+fn put_counts(answer: &mut [u32], book: Book)
     requires { ⌜ length (now answer) ≡ 7 ⌝ }
     requires { ⌜ WithinBook book ⌝ }
-    ensures { λ r. ⌜ now (answer .exit) ≡ counted book ⌝ }
+    ensures { λ r. ⌜ now (answer .exit) ≡ countsOf book ⌝ }
 {
     let state = book.state;
     answer[0] = book.atoms as u32;
@@ -160,6 +164,6 @@ pub extern "C" fn battenplum_read(
         levels,
     );
     let verdict = book.verdict;
-    tell(answer, book);
+    put_counts(answer, book);
     pack(verdict)
 }

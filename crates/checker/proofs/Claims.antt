@@ -3,48 +3,39 @@
 use Prim.Native.Nat.{ℕ, _<_}
 use mathlib.Core.Path.{_≡_, refl, sym, ap, _∙_}
 use mathlib.Core.Bool.{true, not}
-use mathlib.Core.List.{List, [], _∷_, List·Memᴰ, List·Memᴰ·head, List·Memᴰ·tail}
-use lib.ListN.{length}
+use mathlib.Core.List.{List, List·Memᴰ, List·Memᴰ·head, List·Memᴰ·tail}
 use borrow.Author.Tests.{not-false}
 use Rattle.wellfounded.specs.Lists.{any}
 use Rattle.wellfounded.specs.Literals.{isFalse, valueAt}
 use Rattle.wellfounded.specs.Definitions.{Rule, isDefined}
 use Rattle.wellfounded.specs.Levels.{Blocks, levelInRange, blocks}
 use Rattle.wellfounded.proofs.Tests.{both, first, second, not-lacking, none-lacking}
-use Rattle.wellfounded.proofs.Lists.{any-use, any-make, member-tabulate, tabulate-member}
+use Rattle.wellfounded.proofs.Lists.{any-use, any-make}
 use Rattle.wellfounded.proofs.Definitions.{defined-below, open-below}
 use Rattle.wellfounded.proofs.Levels.{levelInRange-open, levelInRange-defined, levelInRange-make, isSupported-use, isSupported-make, blocks-use, blocks-make}
 use Rattle.tables.specs.Faults.{Test, Absent}
-use Rattle.tables.specs.Rows.{ruleCount, ruleHead, ruleBody, ruleAt, rulesOf, definitionOf}
+use Rattle.tables.specs.Rows.{ruleCount, ruleHead, ruleBody, ruleAt, definitionOf}
+use Rattle.tables.proofs.RowLaws.{book-size, book-rows}
 use Rattle.tables.specs.Sound.{Tables, bookOf, Sound}
 use Rattle.tables.proofs.Faults.{absent-more}
 use Rattle.tables.proofs.SoundTables.{sound-rules, slices-fit}
 use Rattle.satisfaction.proofs.Satisfied.{absent-satisfies, satisfies-absent}
-use Rattle.tables.specs.Marks.{notHeld}
-use Rattle.checker.specs.Check.{badLevel, unsupported, unblocked, valueTest, levelTest, supportTest, blockingTest, levelTests, claimTests, RightClaim}
-use Rattle.checker.proofs.LevelScans.{head-defined}
+use Rattle.tables.specs.Values.{notHeld}
+use Rattle.checker.specs.Check.{badLevel, unsupported, unblocked, valueTest, levelTest, supportTest, blockingTest, levelTests, claimTests, claimSlices, RightClaim}
 
 module _ (t : Tables) (values levels : List ℕ) where
-  abbrev pub lengths : List ℕ
-  lengths = length values ∷ length levels ∷ []
+  row-defined :
+      Sound t (claimSlices t values levels) → (row : ℕ) → row < ruleCount (t .rules) → isDefined (bookOf t) (ruleHead (t .rules) row) ≡ true
+  row-defined sound row l = book-rows t .headDefined row l (rw book-size (sound-rules t (sound .tables) .heads row l))
 
-  -- A rule of the book stands in a row.
-  rule-row :
-      (r : Rule) → List·Memᴰ r (bookOf t .rules) →
-      (row : ℕ) × (row < ruleCount (t .rules)) × (r ≡ ruleAt (t .rules) (t .literals) row)
-  unfolding bookOf definitionOf rulesOf
-  rule-row r m = tabulate-member _ _ m
-
-  row-defined : Sound t lengths → (row : ℕ) → row < ruleCount (t .rules) → isDefined (bookOf t) (ruleHead (t .rules) row) ≡ true
-  unfolding bookOf
-  row-defined sound row l = head-defined (sound-rules t (sound .tables)) row l
-
-  pub claim-right : Sound t lengths → ((test : Test) → List·Memᴰ test (claimTests t values levels) → Absent test) → RightClaim t values levels
+  pub claim-right :
+      Sound t (claimSlices t values levels) → ((test : Test) → List·Memᴰ test (claimTests t values levels) → Absent test) →
+      RightClaim t values levels
   unfolding claimTests levelTests valueTest levelTest supportTest blockingTest notHeld badLevel unsupported unblocked bookOf definitionOf ruleAt
   claim-right sound none =
       record {
         twoValued = record {
-          size = slices-fit (t .atoms) lengths (sound .slices) (length values) (List·Memᴰ·head refl);
+          size = slices-fit _ (sound .slices) _ (List·Memᴰ·head refl);
           held = λ atom l. not-false _ (none _ (List·Memᴰ·head refl) .nowhere atom l);
         };
         obeys = record {
@@ -76,12 +67,14 @@ module _ (t : Tables) (values levels : List ℕ) where
           (r : Rule) → List·Memᴰ r (bookOf t .rules) → r .head ≡ atom →
           (literal : ℕ) × List·Memᴰ literal (r .body) × Blocks (bookOf t) values levels atom literal
       blocked atom d f r m e =
-          let at = rule-row r m in
+          let at = book-rows t .ruleRow m in
           let head : ruleHead (t .rules) (at .0) ≡ atom = ap (λ (x : Rule). x .head) (sym (at .2)) ∙ e in
           rw (at .2, ← head) (blocked-row (at .0) (at .1) (rw head f))
 
-  pub right-claim : Sound t lengths → RightClaim t values levels → (test : Test) → List·Memᴰ test (claimTests t values levels) → Absent test
-  unfolding claimTests levelTests valueTest levelTest supportTest blockingTest notHeld badLevel unsupported unblocked bookOf definitionOf rulesOf ruleAt
+  pub right-claim :
+      Sound t (claimSlices t values levels) → RightClaim t values levels → (test : Test) → List·Memᴰ test (claimTests t values levels) →
+      Absent test
+  unfolding claimTests levelTests valueTest levelTest supportTest blockingTest notHeld badLevel unsupported unblocked bookOf definitionOf ruleAt
   right-claim sound right =
       absent-more (record { nowhere = λ atom l. ap not (right .twoValued .held atom l) })
       (absent-more (record { nowhere = λ atom l. ap not (levelInRange-make (bookOf t) levels atom l (right .obeys .openLevel atom) (right .obeys .definedLevel atom)) })
@@ -93,6 +86,6 @@ module _ (t : Tables) (values levels : List ℕ) where
       blocking row l f =
           let found =
           right .obeys .blocked (ruleHead (t .rules) row) (row-defined sound row l) f (ruleAt (t .rules) (t .literals) row)
-          (member-tabulate (ruleCount (t .rules)) (ruleAt (t .rules) (t .literals)) row l) refl
+          (book-rows t .rowRule row l) refl
           in
           any-make (blocks (bookOf t) values levels (ruleHead (t .rules) row)) _ (found .1) (blocks-make (bookOf t) values levels _ (found .0) (found .2))

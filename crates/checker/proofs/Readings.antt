@@ -21,11 +21,12 @@ use Rattle.tables.specs.Loads.{loadAt}
 use Rattle.satisfaction.specs.Satisfied.{failingClause, failingLoad}
 use Rattle.satisfaction.proofs.Satisfied.{clause-holds-use, clause-holds-make}
 use Rattle.satisfaction.proofs.LoadLaws.{load-holds-use, load-holds-make}
-use Rattle.tables.specs.Marks.{notHeld}
+use Rattle.tables.specs.Values.{notHeld}
 use Rattle.checker.specs.Check.{badLevel, unsupported, unblocked}
 
 -- 21: the value is not 0 or 1.
-pub value-fault : (values : List ℕ) (atom : ℕ) → (notHeld values atom ≡ true) ↔ ((valueAt values atom ≡ 0 → ⊥) × (valueAt values atom ≡ 1 → ⊥))
+pub value-fault :
+    (values : List ℕ) (atom : ℕ) → (notHeld values atom ≡ true) ↔ ((valueAt values atom ≡ 0 → ⊥) × (valueAt values atom ≡ 1 → ⊥))
 unfolding notHeld isHeld
 value-fault values atom = (λ h. says (valueAt values atom) h, λ n. fails (valueAt values atom) (n .0) (n .1))
   where
@@ -56,7 +57,8 @@ pub support-fault :
     (d : Definition) (values levels : List ℕ) (atom : ℕ) →
     (unsupported d values levels atom ≡ true) ↔
     ((isDefined d atom ≡ true) × (isTrue (valueAt values atom) ≡ true) ×
-    ((r : Rule) × List·Memᴰ r (d .rules) × (r .head ≡ atom) × ((literal : ℕ) → List·Memᴰ literal (r .body) → Supports d values levels atom literal) → ⊥))
+    ((r : Rule) × List·Memᴰ r (d .rules) × (r .head ≡ atom) ×
+    ((literal : ℕ) → List·Memᴰ literal (r .body) → Supports d values levels atom literal) → ⊥))
 unfolding unsupported
 support-fault d values levels atom = (
   λ h.

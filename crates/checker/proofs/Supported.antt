@@ -1,64 +1,96 @@
--- Laws of the rules that support true atoms: the scan of all rows.
+-- What the scans of rule rows tell of the definition's rules: which true atoms are supported, and which rows are not blocked.
 -- Assumes nothing.
-use Prim.Native.Nat.{ℕ, _<_}
-use mathlib.Core.Path.{_≡_, refl, sym, ap, _∙_}
-use mathlib.Core.Bool.{Bool, true, not, _&&_}
-use mathlib.Core.List.{List}
+use Prim.Native.Nat.{ℕ, _≤_, _<_}
+use mathlib.Core.Path.{_≡_, refl, sym, ap}
+use mathlib.Core.Bool.{Bool, true, false, not, _&&_, and-false}
+use mathlib.Core.List.{List, List·Memᴰ}
+use native.Mathlib.Omega.{arith}
 use lib.Dec.{eqb}
-use lib.ListN.{length, getD}
-use borrow.Author.Tests.{eqb-true, eq-eqb}
+use lib.ListN.{length, getD, replicate}
 use Rattle.wellfounded.specs.Lists.{all}
-use Rattle.wellfounded.specs.Literals.{isTrue, valueAt}
-use Rattle.wellfounded.specs.Definitions.{Rule, Definition}
+use Rattle.wellfounded.specs.Literals.{isTrue, isFalse, valueAt, atomOf}
+use Rattle.wellfounded.specs.Definitions.{Definition, isDefined}
 use Rattle.wellfounded.specs.Levels.{supports, isSupported}
-use Rattle.wellfounded.proofs.Tests.{both, first, second, same-test}
-use Rattle.wellfounded.proofs.Lists.{anyBelow-use, anyBelow-make, member-tabulate, tabulate-member}
-use Rattle.wellfounded.proofs.Definitions.{someRule-use, someRule-make}
-use Rattle.tables.specs.Rows.{ruleCount, ruleHead, ruleBody, ruleAt, rulesOf, definitionOf}
-use Rattle.tables.specs.Marks.{isMarked}
-use Rattle.tables.proofs.MarkLaws.{true-at}
-use Rattle.checker.specs.Marks.{supportedBy}
+use Rattle.wellfounded.proofs.Lists.{all-same, any-same}
+use Rattle.wellfounded.proofs.Scan.{body-member, table-known}
+use Rattle.tables.specs.Faults.{lowest}
+use Rattle.tables.specs.Limits.{maxAtoms}
+use Rattle.tables.specs.Rows.{ruleCount, ruleHead, ruleStart, ruleSize, ruleBody}
+use Rattle.tables.specs.internal.Definitions.{HasRows}
+use Rattle.tables.specs.internal.Scans.{RulesScannable}
+use Rattle.tables.specs.internal.Marks.{isMarked, markWhere}
+use Rattle.tables.proofs.Faults.{lowest-same}
+use Rattle.tables.proofs.MarkLaws.{true-at, fresh-marks}
+use Rattle.tables.proofs.RowLaws.{rows-some}
+use Rattle.checker.specs.Check.{unsupported, unblocked}
+use Rattle.checker.specs.internal.Scans.{Readable, Ranged, HeadsLevelled, supportsRow, supportedBy, unblockedRow}
+use Rattle.checker.proofs.LevelReads.{supports-below, blocks-below}
 
--- A rule row whose head is true and which supports it.
-abbrev pub supportsRow : Definition → List ℕ → List ℕ → List ℕ → List ℕ → ℕ → Bool
-supportsRow d rules literals values levels row =
-    isTrue (valueAt values (ruleHead rules row)) && all (supports d values levels (ruleHead rules row)) (ruleBody rules literals row)
+-- The literals of a row have values.
+body-known :
+    (rules literals : List ℕ) (atoms : ℕ) → RulesScannable rules literals atoms → (row literal : ℕ) →
+    List·Memᴰ literal (ruleBody rules literals row) → atomOf literal < atoms
+unfolding ruleBody
+body-known rules literals atoms scan row literal m =
+    table-known literals atoms (scan .known) (body-member literals (ruleStart rules row) (ruleSize rules row) m)
 
--- For a true atom such a row is a rule that supports it,
-row-gives :
-    (d : Definition) (rules literals values levels : List ℕ) (atom row : ℕ) →
-    (eqb (ruleHead rules row) atom && supportsRow d rules literals values levels row) ≡ true →
-    (ruleHead rules row ≡ atom) × (all (supports d values levels atom) (ruleBody rules literals row) ≡ true)
-row-gives d rules literals values levels atom row t =
-    let e : ruleHead rules row ≡ atom = eqb-true _ _ (first _ _ t) in
-    (e, rw e at (second (isTrue (valueAt values (ruleHead rules row))) _ (second (eqb (ruleHead rules row) atom) _ t)))
+-- Levels in range are 1 or more at heads, which are defined.
+pub heads-levelled :
+    {d : Definition} {rules literals values levels : List ℕ} → HasRows d rules literals → length values ≤ maxAtoms →
+    RulesScannable rules literals (length values) → Ranged d values levels → HeadsLevelled rules literals values levels
+heads-levelled rows few scan r =
+    record {
+      levelled = record { few = few; long = omega arith; rows = scan };
+      high = λ row l. r .definedLevel _ (rows .headDefined row l (omega (arith, scan .heads row l)));
+    }
 
--- and the other way round.
-row-takes :
-    (d : Definition) (rules literals values levels : List ℕ) (atom row : ℕ) → isTrue (valueAt values atom) ≡ true → ruleHead rules row ≡ atom →
-    all (supports d values levels atom) (ruleBody rules literals row) ≡ true →
-    (eqb (ruleHead rules row) atom && supportsRow d rules literals values levels row) ≡ true
-row-takes d rules literals values levels atom row h e t = rw e (both _ _ (eq-eqb atom atom refl) (both _ _ h t))
+module _
+    {d : Definition} {rules literals values levels : List ℕ} (r : Ranged d values levels) (heads : HeadsLevelled rules literals values levels)
+  where
+    -- A row is unblocked by its levels exactly if it is by the definition.
+    pub blocking-search :
+        lowest (ruleCount rules) (unblockedRow rules literals values levels) ≡ lowest (ruleCount rules)
+        (unblocked d rules literals values levels)
+    unfolding unblocked unblockedRow
+    blocking-search =
+        lowest-same _ _ (ruleCount rules)
+        (λ row l.
+        ap (λ (b : Bool). isFalse (valueAt values (ruleHead rules row)) && not b)
+        (any-same _ _ _ (λ literal m.
+        sym (blocks-below r (ruleHead rules row) literal (body-known rules literals _ (heads .levelled .rows) row literal m) (heads .high row l)))))
 
--- Over all rows the marks tell which true atoms are supported.
-pub supported-by-all :
-    (atoms : ℕ) (rules literals values levels : List ℕ) (atom : ℕ) → isTrue (valueAt values atom) ≡ true →
-    supportedBy (definitionOf atoms rules literals) rules literals values levels (ruleCount rules) atom
-    ≡ isSupported (definitionOf atoms rules literals) values levels atom
-unfolding supportedBy isSupported definitionOf rulesOf ruleAt
-supported-by-all atoms rules literals values levels atom h =
-    same-test _ _
-    (λ t.
-    let found = anyBelow-use (ruleCount rules) _ t in
-    let gives = row-gives _ rules literals values levels atom (found .0) (found .2) in
-    someRule-make (definitionOf atoms rules literals) atom _ (ruleAt rules literals (found .0)) (member-tabulate _ _ (found .0) (found .1))
-    (gives .0) (gives .1))
-    (λ t.
-    let found = someRule-use (definitionOf atoms rules literals) atom _ t in
-    let row = tabulate-member (ruleCount rules) (ruleAt rules literals) (found .1) in
-    anyBelow-make (ruleCount rules) _ (row .0) (row .1)
-    (row-takes _ rules literals values levels atom (row .0) h (ap (λ (r : Rule). r .head) (sym (row .2)) ∙ found .2)
-    (rw (row .2) at (found .3))))
+    module _ (rows : HasRows d rules literals) where
+      -- A true atom is supported by a row exactly if it has a rule that supports it.
+      supported-by-rows :
+          (atom : ℕ) → isTrue (valueAt values atom) ≡ true →
+          supportedBy rules literals values levels (ruleCount rules) atom ≡ isSupported d values levels atom
+      unfolding supportedBy isSupported supportsRow
+      supported-by-rows atom holds =
+          rows-some rows atom (all (supports d values levels atom)) (supportsRow rules literals values levels) alike
+        where
+          alike :
+              (row : ℕ) → row < ruleCount rules → ruleHead rules row ≡ atom →
+              supportsRow rules literals values levels row ≡ all (supports d values levels atom) (ruleBody rules literals row)
+          alike row l head =
+              rw (head, holds)
+              (all-same _ _ _ (λ literal m.
+              sym (supports-below r atom literal (body-known rules literals _ (heads .levelled .rows) row literal m) (rw head at (heads .high row l)))))
+
+      -- So where the supported atoms are marked, the lowest unsupported one is that of the definition.
+      pub support-search :
+          (defined supported : List ℕ) → Readable d defined values levels →
+          supported ≡ markWhere (supportedBy rules literals values levels (ruleCount rules)) (replicate maxAtoms 0) →
+          lowest (length values) (λ atom. isMarked defined atom && isTrue (valueAt values atom) && not (isMarked supported atom))
+          ≡ lowest (d .size) (unsupported d values levels)
+      unfolding unsupported
+      support-search defined supported readable is =
+          rw (readable .valued) (lowest-same _ _ (d .size) (λ atom l.
+          rw (readable .tells atom l, is, fresh-marks maxAtoms _ atom (omega (arith, heads .levelled .few)))
+          (relying (isDefined d atom) _ _ _ (supported-by-rows atom))))
+        where
+          relying : (a b x y : Bool) → (b ≡ true → x ≡ y) → (a && b && not x) ≡ (a && b && not y)
+          relying a true x y alike = rw (alike refl)
+          relying a false x y alike = rw and-false
 
 -- A defined true atom without support, as the code tests it.
 pub unsupported-at :

@@ -1,20 +1,20 @@
 -- What the check promises: statements about `checkOf`, the definition that the contract of `check` cites.
 -- A claim is accepted if the check's number is 0. `t` is any content of the lent tables, sound or not.
 -- Assumes nothing.
-use Prim.Native.Nat.{ℕ}
+use Prim.Native.Nat.{ℕ, _≤_}
 use mathlib.Core.Path.{_≡_, refl, ap, _∙_}
 use mathlib.Core.Logic.{_↔_}
-use mathlib.Core.List.{List, [], _∷_, List·Memᴰ, List·Memᴰ·head, List·Memᴰ·tail, Memᴰ·append-left, Memᴰ·append-right}
-use lib.ListN.{length}
-use Rattle.wellfounded.specs.Stages.{wellFoundedModel, TwoValued, SameSetting}
-use Rattle.wellfounded.proofs.Theorems.{sound, unique}
+use mathlib.Core.List.{List, List·Memᴰ, List·Memᴰ·head, List·Memᴰ·tail, Memᴰ·append-left, Memᴰ·append-right}
+use Rattle.wellfounded.specs.Stages.{wellFoundedModel, stageOf, TwoValued, SameSetting}
+use Rattle.wellfounded.specs.Levels.{levelAt}
+use Rattle.wellfounded.proofs.Theorems.{sound, stage-below-level, unique}
 use Rattle.tables.specs.declared.Fault.{Fault}
 use Rattle.tables.specs.Faults.{Test, Absent, numberOf, positionOf, faultNumber, RefusedBy}
 use Rattle.tables.specs.Sound.{Tables, bookOf, tableTests, Sound}
 use Rattle.satisfaction.specs.Satisfied.{Satisfies}
 use Rattle.tables.proofs.Faults.{accepted-absent, absent-accepted, absent-more, first-append, refused-by, by-refused}
 use Rattle.tables.proofs.Numbers.{zero-accepted, number-refused}
-use Rattle.checker.specs.Check.{checkTests, checkOf, RightClaim}
+use Rattle.checker.specs.Check.{claimSlices, checkTests, checkOf, RightClaim}
 use Rattle.checker.proofs.Claims.{claim-right, right-claim}
 
 module _ (t : Tables) (values levels : List ℕ) where
@@ -25,7 +25,7 @@ module _ (t : Tables) (values levels : List ℕ) where
   no-fault zero = accepted-absent (checkTests t values levels) (zero-accepted _ zero)
 
   -- Unsound tables are never accepted.
-  pub accepted-sound : numberOf (checkOf t values levels) ≡ 0 → Sound t (length values ∷ length levels ∷ [])
+  pub accepted-sound : numberOf (checkOf t values levels) ≡ 0 → Sound t (claimSlices t values levels)
   unfolding checkTests
   accepted-sound zero =
       record {
@@ -40,7 +40,7 @@ module _ (t : Tables) (values levels : List ℕ) where
 
   -- On sound tables a claim is accepted exactly if it is right.
   pub accepted-exactly :
-      Sound t (length values ∷ length levels ∷ []) → (numberOf (checkOf t values levels) ≡ 0) ↔ RightClaim t values levels
+      Sound t (claimSlices t values levels) → (numberOf (checkOf t values levels) ≡ 0) ↔ RightClaim t values levels
   unfolding checkOf checkTests
   accepted-exactly sound = (accepted-right, accept)
     where
@@ -83,6 +83,14 @@ module _ (t : Tables) (values levels : List ℕ) where
       numberOf (checkOf t values levels) ≡ 0 → (setting : List ℕ) → SameSetting (bookOf t) setting values →
       Satisfies t (wellFoundedModel (bookOf t) setting)
   accepted-satisfied zero setting alike = rw (accepted-model zero setting alike) (accepted-right zero .satisfies)
+
+  -- No level is below its atom's stage.
+  pub accepted-levels :
+      numberOf (checkOf t values levels) ≡ 0 → (setting : List ℕ) → SameSetting (bookOf t) setting values →
+      (atom : ℕ) → stageOf (bookOf t) setting atom ≤ levelAt levels atom
+  accepted-levels zero setting alike =
+      let right = accepted-right zero in
+      stage-below-level (bookOf t) values levels setting (right .twoValued) (right .obeys) alike
 
 -- Two accepted claims that agree on the open atoms have equal values, whatever their levels are.
 pub accepted-unique :

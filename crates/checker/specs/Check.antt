@@ -12,8 +12,8 @@ use Rattle.tables.specs.declared.Fault.the-variants.{Value, Level, Unsupported,
 use Rattle.tables.specs.declared.Verdict.{Verdict}
 use Rattle.tables.specs.Faults.{Test, firstFault}
 use Rattle.tables.specs.Rows.{ruleCount, ruleHead, ruleBody}
-use Rattle.tables.specs.Sound.{Tables, bookOf, tableTests, sliceTest}
-use Rattle.tables.specs.Marks.{notHeld}
+use Rattle.tables.specs.Sound.{Tables, bookOf, tableTests, Slice, sized, sliceTest}
+use Rattle.tables.specs.Values.{notHeld}
 use Rattle.satisfaction.specs.Satisfied.{Satisfies, satisfactionTests}
 
 -- 21: a value that is not 0 or 1.
@@ -53,9 +53,13 @@ unfoldable pub claimTests : Tables → List ℕ → List ℕ → List Test
 claimTests t values levels =
     valueTest (t .atoms) values ∷ (levelTests (bookOf t) (t .rules) (t .literals) values levels ++ satisfactionTests t values)
 
+-- The slices that the check is lent beside the tables: a value and a level for each atom.
+abbrev pub claimSlices : Tables → List ℕ → List ℕ → List Slice
+claimSlices t values levels = sized (length values) (t .atoms) ∷ sized (length levels) (t .atoms) ∷ []
+
 -- The faults of a call of the check: those of the tables, of the slices lent with them, and of the claim.
 unfoldable pub checkTests : Tables → List ℕ → List ℕ → List Test
-checkTests t values levels = tableTests t ++ (sliceTest (t .atoms) (length values ∷ length levels ∷ []) ∷ claimTests t values levels)
+checkTests t values levels = tableTests t ++ (sliceTest (claimSlices t values levels) ∷ claimTests t values levels)
 
 unfoldable pub checkOf : Tables → List ℕ → List ℕ → Verdict
 checkOf t values levels = firstFault (checkTests t values levels)

@@ -1,3 +1,3 @@
--- The check of a claim, and what its scans read.
+-- The check of a claim.
 pub mod Check
-pub mod Marks
+pub mod internal

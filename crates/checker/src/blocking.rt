@@ -1,15 +1,11 @@
 // Rules of false atoms and the literals that block them.
 ghost use mathlib.Core.Path.{_≡_};
-ghost use Prim.Native.Nat.{ℕ, _≤_, _<_};
+ghost use Prim.Native.Nat.{_≤_, _<_};
 ghost use lib.ListN.{length, getD};
 ghost use Rattle.wellfounded.specs.Literals.{atomOf};
-ghost use Rattle.wellfounded.specs.Definitions.{Definition};
-ghost use Rattle.wellfounded.specs.Levels.{levelAt, blocks};
 ghost use Rattle.tables.specs.Faults.{lowest};
-ghost use Rattle.tables.specs.Rows.{ruleCount, definitionOf};
-ghost use Rattle.tables.specs.Scans.{RulesScannable};
-ghost use Rattle.checker.specs.Check.{unblocked};
-ghost use Rattle.checker.specs.Marks.{Ranged, Reached};
+ghost use Rattle.tables.specs.Rows.{ruleCount};
+ghost use Rattle.checker.specs.internal.Scans.{HasEntries, HeadsLevelled, blocksBelow, unblockedRow};
 use tables::Found;
 use tables::rows::rule_count;
 use tables::rows::rule_head;
@@ -21,10 +17,8 @@ use wellfounded::atom_of;
 // level no higher if it is positive, strictly lower if it is negated. An open atom's level is 0, so that it is always lower.
 // The value that makes a literal false is 1 if it is negated, and 0 if not.
 fn literal_blocks(body: &[u16], i: usize, level: u16, values: &[u8], levels: &[u16]) -> bool
-    requires { ⌜ (i < length (now body)) × Reached (atomOf (getD (now body) i 0)) (now values) (now levels) × (1 ≤ level) ⌝ }
-    ensures { λ r. ⌜ ((d : Definition) (atom : ℕ) → Ranged d (now (values .entry)) (now (levels .entry)) →
-        levelAt (now (levels .entry)) atom ≡ level →
-        r ≡ blocks d (now (values .entry)) (now (levels .entry)) atom (getD (now (body .entry)) i 0)) ⌝ }
+    requires { ⌜ (i < length (now body)) × HasEntries (atomOf (getD (now body) i 0)) (now values) (now levels) × (1 ≤ level) ⌝ }
+    ensures { λ r. ⌜ r ≡ blocksBelow (now (values .entry)) (now (levels .entry)) level (getD (now (body .entry)) i 0) ⌝ }
 {
     let literal = body[i];
     let atom = atom_of(literal);
@@ -34,11 +28,9 @@ fn literal_blocks(body: &[u16], i: usize, level: u16, values: &[u8], levels: &[u
 
 // The lowest rule row of a false atom with no blocking literal.
 pub fn unblocked_row(rules: &[u16], literals: &[u16], values: &[u8], levels: &[u16]) -> Found
-    requires { ⌜ RulesScannable (now rules) (now literals) (length (now values)) ⌝ }
-    requires { ⌜ Ranged (definitionOf (length (now values)) (now rules) (now literals)) (now values) (now levels) ⌝ }
+    requires { ⌜ HeadsLevelled (now rules) (now literals) (now values) (now levels) ⌝ }
     ensures { λ r. ⌜ r ≡ lowest (ruleCount (now (rules .entry)))
-        (unblocked (definitionOf (length (now (values .entry))) (now (rules .entry)) (now (literals .entry)))
-        (now (rules .entry)) (now (literals .entry)) (now (values .entry)) (now (levels .entry))) ⌝ }
+        (unblockedRow (now (rules .entry)) (now (literals .entry)) (now (values .entry)) (now (levels .entry))) ⌝ }
 {
     let rows = rule_count(rules);
     let mut next = 0;

@@ -3,12 +3,15 @@ ghost use mathlib.Core.Path.{_≡_};
 ghost use mathlib.Core.List.{[], _∷_};
 ghost use Prim.Native.Nat.{_≤_};
 ghost use lib.ListN.{length};
+ghost use Rattle.wellfounded.specs.Definitions.{Definition};
+ghost use Rattle.tables.specs.Limits.{maxAtoms};
 ghost use Rattle.tables.specs.Faults.{firstFault};
 ghost use Rattle.tables.specs.Rows.{definitionOf};
 ghost use Rattle.tables.specs.Sound.{lent};
-ghost use Rattle.tables.specs.Scans.{RulesScannable, ClausesScannable, LoadsScannable};
+ghost use Rattle.tables.specs.internal.Definitions.{HasRows};
+ghost use Rattle.tables.specs.internal.Scans.{ClausesScannable, LoadsScannable};
 ghost use Rattle.checker.specs.Check.{supportTest, blockingTest, levelTests, claimTests, checkOf};
-ghost use Rattle.checker.specs.Marks.{Readable, Ranged, Levelled};
+ghost use Rattle.checker.specs.internal.Scans.{Readable, Ranged, Levelled, HeadsLevelled};
 
 mod blocking;
 mod levels;
@@ -24,6 +27,7 @@ use tables::Found;
 use tables::Verdict;
 use tables::marks::count_marked;
 use tables::marks::mark_heads;
+use tables::sizes::MAX_ATOMS;
 use tables::sizes::table_fault;
 use tables::values::not_held_atom;
 
@@ -35,16 +39,14 @@ fn rule_fault(
     values: &[u8],
     levels: &[u16],
 ) -> Verdict
-    requires { ⌜ RulesScannable (now rules) (now literals) (length (now values)) ⌝ }
-    requires { ⌜ Readable (definitionOf (length (now values)) (now rules) (now literals)) (now defined) (now values) (now levels) ⌝ }
-    requires { ⌜ Ranged (definitionOf (length (now values)) (now rules) (now literals)) (now values) (now levels) ⌝ }
-    requires { ⌜ length (now values) ≤ 1024 ⌝ }
-    ensures { λ r. ⌜ r ≡ firstFault
-        (supportTest (definitionOf (length (now (values .entry))) (now (rules .entry)) (now (literals .entry))) (now (values .entry)) (now (levels .entry))
-        ∷ blockingTest (definitionOf (length (now (values .entry))) (now (rules .entry)) (now (literals .entry)))
-        (now (rules .entry)) (now (literals .entry)) (now (values .entry)) (now (levels .entry)) ∷ []) ⌝ }
+    requires { ⌜ HeadsLevelled (now rules) (now literals) (now values) (now levels) ⌝ }
+    requires { ⌜ length (now values) ≤ length (now defined) ⌝ }
+    ensures { λ r. ⌜ ((d : Definition) → HasRows d (now (rules .entry)) (now (literals .entry)) →
+        Readable d (now (defined .entry)) (now (values .entry)) (now (levels .entry)) → Ranged d (now (values .entry)) (now (levels .entry)) →
+        r ≡ firstFault (supportTest d (now (values .entry)) (now (levels .entry))
+        ∷ blockingTest d (now (rules .entry)) (now (literals .entry)) (now (values .entry)) (now (levels .entry)) ∷ [])) ⌝ }
 {
-    let mut supported = [0u8; 1024];
+    let mut supported = [0u8; MAX_ATOMS];
     mark_supported(rules, literals, values, levels, &mut supported);
     if let Found::At(atom) = unsupported_atom(defined, values, &supported) {
         return Verdict::Refused(Fault::Unsupported, atom);
@@ -61,10 +63,10 @@ fn level_fault(rules: &[u16], literals: &[u16], values: &[u8], levels: &[u16]) -
     ensures { λ r. ⌜ r ≡ firstFault (levelTests (definitionOf (length (now (values .entry))) (now (rules .entry)) (now (literals .entry)))
         (now (rules .entry)) (now (literals .entry)) (now (values .entry)) (now (levels .entry))) ⌝ }
 {
-    let mut defined = [0u8; 1024];
+    let mut defined = [0u8; MAX_ATOMS];
     mark_heads(rules, &mut defined);
     let most = count_marked(&defined, values.len());
-    if let Found::At(atom) = bad_level(&defined, most, values, levels) {
+    if let Found::At(atom) = bad_level(&defined, most, levels) {
         return Verdict::Refused(Fault::Level, atom);
     }
     rule_fault(rules, literals, &defined, values, levels)

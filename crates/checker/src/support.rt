@@ -1,17 +1,15 @@
 // True atoms and the rules that support them.
 ghost use mathlib.Core.Path.{_≡_};
 ghost use mathlib.Core.Bool.{not, _&&_};
-ghost use Prim.Native.Nat.{ℕ, _≤_, _<_};
+ghost use Prim.Native.Nat.{_≤_, _<_};
 ghost use lib.ListN.{length};
 ghost use Rattle.wellfounded.specs.Lists.{all};
-ghost use Rattle.wellfounded.specs.Literals.{atomOf, isTrue, valueAt, bodyAt, Scannable};
-ghost use Rattle.wellfounded.specs.Definitions.{Definition};
-ghost use Rattle.wellfounded.specs.Levels.{levelAt, supports};
+ghost use Rattle.wellfounded.specs.Literals.{atomOf, isTrue, valueAt, bodyAt};
+ghost use Rattle.wellfounded.specs.internal.Scans.{Scannable};
 ghost use Rattle.tables.specs.Faults.{lowest};
-ghost use Rattle.tables.specs.Rows.{ruleCount, ruleHead, ruleBody, definitionOf};
-ghost use Rattle.tables.specs.Scans.{RulesScannable};
-ghost use Rattle.tables.specs.Marks.{isMarked, markWhere};
-ghost use Rattle.checker.specs.Marks.{Ranged, Reached, supportedBy};
+ghost use Rattle.tables.specs.Rows.{ruleCount};
+ghost use Rattle.tables.specs.internal.Marks.{isMarked, markWhere};
+ghost use Rattle.checker.specs.internal.Scans.{HasEntries, Levelled, supportsBelow, supportsRow, supportedBy};
 use tables::Found;
 use tables::rows::rule_count;
 use tables::rows::rule_head;
@@ -23,9 +21,8 @@ use wellfounded::literal_true;
 // Whether the literal supports a true atom at the level: it is true, and its atom is at a strictly lower level. An open atom's
 // level is 0, so that it is always lower.
 fn literal_supports(literal: u16, level: u16, values: &[u8], levels: &[u16]) -> bool
-    requires { ⌜ Reached (atomOf literal) (now values) (now levels) × (1 ≤ level) ⌝ }
-    ensures { λ r. ⌜ ((d : Definition) (atom : ℕ) → Ranged d (now (values .entry)) (now (levels .entry)) →
-        levelAt (now (levels .entry)) atom ≡ level → r ≡ supports d (now (values .entry)) (now (levels .entry)) atom literal) ⌝ }
+    requires { ⌜ HasEntries (atomOf literal) (now values) (now levels) ⌝ }
+    ensures { λ r. ⌜ r ≡ supportsBelow (now (values .entry)) (now (levels .entry)) level literal ⌝ }
 {
     let atom = atom_of(literal);
     literal_true(literal, values) & (levels[atom] < level)
@@ -39,10 +36,8 @@ fn literals_support(
     values: &[u8],
     levels: &[u16],
 ) -> bool
-    requires { ⌜ (Scannable (now literals) 0 size (length (now values))) × (length (now levels) ≡ length (now values)) × (1 ≤ level) ⌝ }
-    ensures { λ r. ⌜ ((d : Definition) (atom : ℕ) → Ranged d (now (values .entry)) (now (levels .entry)) →
-        levelAt (now (levels .entry)) atom ≡ level →
-        r ≡ all (supports d (now (values .entry)) (now (levels .entry)) atom) (bodyAt (now (literals .entry)) 0 size)) ⌝ }
+    requires { ⌜ (Scannable (now literals) 0 size (length (now values))) × (length (now levels) ≡ length (now values)) ⌝ }
+    ensures { λ r. ⌜ r ≡ all (supportsBelow (now (values .entry)) (now (levels .entry)) level) (bodyAt (now (literals .entry)) 0 size) ⌝ }
 {
     let mut i = 0;
     while i < size {
@@ -63,22 +58,16 @@ fn body_supports(
     values: &[u8],
     levels: &[u16],
 ) -> bool
-    requires { ⌜ (Scannable (now literals) start size (length (now values))) × (length (now levels) ≡ length (now values)) × (1 ≤ level) ⌝ }
-    ensures { λ r. ⌜ ((d : Definition) (atom : ℕ) → Ranged d (now (values .entry)) (now (levels .entry)) →
-        levelAt (now (levels .entry)) atom ≡ level →
-        r ≡ all (supports d (now (values .entry)) (now (levels .entry)) atom) (bodyAt (now (literals .entry)) start size)) ⌝ }
+    requires { ⌜ (Scannable (now literals) start size (length (now values))) × (length (now levels) ≡ length (now values)) ⌝ }
+    ensures { λ r. ⌜ r ≡ all (supportsBelow (now (values .entry)) (now (levels .entry)) level) (bodyAt (now (literals .entry)) start size) ⌝ }
 {
     literals_support(&literals[start..], size, level, values, levels)
 }
 
 // Whether the rule row's head is true and the row supports it.
 fn row_supports(rules: &[u16], row: usize, literals: &[u16], values: &[u8], levels: &[u16]) -> bool
-    requires { ⌜ row < ruleCount (now rules) ⌝ }
-    requires { ⌜ RulesScannable (now rules) (now literals) (length (now values)) ⌝ }
-    requires { ⌜ Ranged (definitionOf (length (now values)) (now rules) (now literals)) (now values) (now levels) ⌝ }
-    ensures { λ r. ⌜ r ≡ (isTrue (valueAt (now (values .entry)) (ruleHead (now (rules .entry)) row))
-        && all (supports (definitionOf (length (now (values .entry))) (now (rules .entry)) (now (literals .entry))) (now (values .entry))
-        (now (levels .entry)) (ruleHead (now (rules .entry)) row)) (ruleBody (now (rules .entry)) (now (literals .entry)) row)) ⌝ }
+    requires { ⌜ (row < ruleCount (now rules)) × Levelled (now rules) (now literals) (now values) (now levels) ⌝ }
+    ensures { λ r. ⌜ r ≡ supportsRow (now (rules .entry)) (now (literals .entry)) (now (values .entry)) (now (levels .entry)) row ⌝ }
 {
     let head = rule_head(rules, row);
     if values[head] != 1 {
@@ -97,11 +86,10 @@ pub fn mark_supported(
     levels: &[u16],
     supported: &mut [u8],
 )
-    requires { ⌜ RulesScannable (now rules) (now literals) (length (now values)) ⌝ }
-    requires { ⌜ Ranged (definitionOf (length (now values)) (now rules) (now literals)) (now values) (now levels) ⌝ }
+    requires { ⌜ Levelled (now rules) (now literals) (now values) (now levels) ⌝ }
     requires { ⌜ length (now values) ≤ length (now supported) ⌝ }
-    ensures { λ r. ⌜ now (supported .exit) ≡ markWhere (supportedBy (definitionOf (length (now (values .entry))) (now (rules .entry)) (now (literals .entry)))
-        (now (rules .entry)) (now (literals .entry)) (now (values .entry)) (now (levels .entry)) (ruleCount (now (rules .entry))))
+    ensures { λ r. ⌜ now (supported .exit) ≡ markWhere
+        (supportedBy (now (rules .entry)) (now (literals .entry)) (now (values .entry)) (now (levels .entry)) (ruleCount (now (rules .entry))))
         (now (supported .entry)) ⌝ }
 {
     let rows = rule_count(rules);

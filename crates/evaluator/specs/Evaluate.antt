@@ -1,24 +1,22 @@
--- What the evaluator (the paper's maker) answers and leaves in each slice.
-use Prim.Native.Nat.{ℕ, _≤_}
+-- What the evaluator (the paper's maker) answers and leaves in each slice. `setting` is the content of the open values that it is lent.
+use Prim.Native.Nat.{ℕ}
 use mathlib.Core.Path.{_≡_}
-use mathlib.Core.Bool.{Bool, true, false, not, cond}
+use mathlib.Core.Bool.{Bool, true, not, cond}
 use mathlib.Core.List.{List, [], _∷_, _++_}
 use lib.Dec.{eqb}
 use lib.ListN.{length, replicate}
+use Rattle.wellfounded.specs.Lists.{any}
 use Rattle.wellfounded.specs.Literals.{isHeld, valueAt}
 use Rattle.wellfounded.specs.Definitions.{Definition, isDefined}
 use Rattle.wellfounded.specs.Stages.{closure, wellFoundedModel, stagesOf}
 use Rattle.tables.specs.declared.Fault.{Fault}
-use Rattle.tables.specs.declared.Fault.the-variants.{Malformed, OutsideLimits, OutOfOrder, NoSpace, TableSizes, RuleRow, ClauseRow, LoadRow}
-use Rattle.tables.specs.declared.Fault.the-variants.{Literal, LoadTerm, SliceLength, Value, Level, Unsupported, Unblocked, Undecided, FailingClause, FailingLoad}
+use Rattle.tables.specs.declared.Fault.the-variants.{Value, Undecided, FailingClause, FailingLoad}
 use Rattle.tables.specs.declared.Verdict.{Verdict}
 use Rattle.tables.specs.declared.Verdict.the-variants.{Accepted, Refused}
-use Rattle.tables.specs.Faults.{Test, firstFault}
-use Rattle.tables.specs.Sound.{Tables, bookOf, tableTests, sliceTest}
-use Rattle.tables.specs.Marks.{notHeld}
-use Rattle.tables.specs.Limits.{maxAtoms}
+use Rattle.tables.specs.Faults.{faultNumber, Test, firstFault}
+use Rattle.tables.specs.Sound.{Tables, bookOf, tableTests, Slice, sized, sliceTest}
+use Rattle.tables.specs.Values.{notHeld}
 use Rattle.satisfaction.specs.Satisfied.{satisfactionTests}
-use Rattle.tables.specs.Scans.{RulesScannable, ClausesScannable, LoadsScannable}
 
 -- 21: an open atom's value that is not 0 or 1, or a defined atom's that is not 0.
 unfoldable pub badSetting : Definition → List ℕ → ℕ → Bool
@@ -31,34 +29,24 @@ settingTest d setting = record { fault = Value; positions = d .size; bad = badSe
 unfoldable pub undecidedTest : ℕ → List ℕ → Test
 undecidedTest atoms model = record { fault = Undecided; positions = atoms; bad = notHeld model }
 
+-- The slices that the evaluator is lent beside the tables, by their lengths: open values, values, levels and work, N entries each.
+abbrev pub evaluationSlices : ℕ → ℕ → ℕ → ℕ → ℕ → List Slice
+evaluationSlices atoms setting values levels work = sized setting atoms ∷ sized values atoms ∷ sized levels atoms ∷ sized work atoms ∷ []
+
 -- The faults that stop the evaluator before it writes anything: those of the tables, of the slices, and of the setting.
-unfoldable pub refusalTests : Tables → List ℕ → List ℕ → List Test
-refusalTests t setting lengths = tableTests t ++ (sliceTest (t .atoms) lengths ∷ settingTest (bookOf t) setting ∷ [])
+unfoldable pub refusalTests : Tables → List ℕ → List Slice → List Test
+refusalTests t setting slices = tableTests t ++ (sliceTest slices ∷ settingTest (bookOf t) setting ∷ [])
 
 -- The faults of the model that it has made.
 unfoldable pub modelTests : Tables → List ℕ → List Test
 modelTests t model = undecidedTest (t .atoms) model ∷ satisfactionTests t model
 
 -- The faults of a model: an atom left undecided, a failing clause, a failing load line.
+abbrev pub modelFaults : List Fault
+modelFaults = Undecided ∷ FailingClause ∷ FailingLoad ∷ []
+
 unfoldable pub modelFault : Fault → Bool
-modelFault Malformed = false
-modelFault OutsideLimits = false
-modelFault OutOfOrder = false
-modelFault NoSpace = false
-modelFault TableSizes = false
-modelFault RuleRow = false
-modelFault ClauseRow = false
-modelFault LoadRow = false
-modelFault Literal = false
-modelFault LoadTerm = false
-modelFault SliceLength = false
-modelFault Value = false
-modelFault Level = false
-modelFault Unsupported = false
-modelFault Unblocked = false
-modelFault Undecided = true
-modelFault FailingClause = true
-modelFault FailingLoad = true
+modelFault fault = any (λ (f : Fault). eqb (faultNumber f) (faultNumber fault)) modelFaults
 
 -- Whether an evaluation was made: it was accepted, or refused for its model.
 unfoldable pub isMade : Verdict → Bool
@@ -92,8 +80,9 @@ stoppedOr (Refused fault position) values levels work made =
 
 unfoldable pub evaluateOf : Tables → List ℕ → List ℕ → List ℕ → List ℕ → Evaluation
 evaluateOf t setting values levels work =
+    let slices = evaluationSlices (t .atoms) (length setting) (length values) (length levels) (length work) in
     let made = evaluated t setting in
-    stoppedOr (firstFault (refusalTests t setting (length setting ∷ length values ∷ length levels ∷ length work ∷ []))) values levels work made
+    stoppedOr (firstFault (refusalTests t setting slices)) values levels work made
 
 -- A call's answer and the content of its slices afterwards are an evaluation.
 pub record Answers (e : Evaluation) (verdict : Verdict) (rounds : ℕ) (values levels work : List ℕ) : Type 0 where
@@ -102,13 +91,3 @@ pub record Answers (e : Evaluation) (verdict : Verdict) (rounds : ℕ) (values l
   pub valuesIs : values ≡ e .values
   pub levelsIs : levels ≡ e .levels
   pub workIs : work ≡ e .work
-
--- What the evaluation may rely on where the tables and the slices have no fault.
-pub record Lent (t : Tables) (values levels work : List ℕ) : Type 0 where
-  pub few : t .atoms ≤ maxAtoms
-  pub rows : RulesScannable (t .rules) (t .literals) (t .atoms)
-  pub clauseRows : ClausesScannable (t .clauses) (t .literals) (t .atoms)
-  pub loadRows : LoadsScannable (t .loads) (t .loadLiterals) (t .minutes) (t .atoms)
-  pub valuesLong : length values ≡ t .atoms
-  pub levelsLong : length levels ≡ t .atoms
-  pub workLong : length work ≡ t .atoms

@@ -1,2 +1,3 @@
--- The evaluation of a book at given open values.
+-- The evaluator's answer.
 pub mod Evaluate
+pub mod internal

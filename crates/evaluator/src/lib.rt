@@ -1,14 +1,14 @@
 // The evaluation of a book at given open values.
 ghost use mathlib.Core.Path.{_≡_};
 ghost use mathlib.Core.List.{[], _∷_};
-ghost use lib.Dec.{eqb};
 ghost use lib.ListN.{length};
 ghost use Rattle.wellfounded.specs.Lists.{all};
 ghost use Rattle.tables.specs.Faults.{firstFault};
-ghost use Rattle.tables.specs.Sound.{lent, bookOf};
-ghost use Rattle.tables.specs.Scans.{ClausesScannable, LoadsScannable};
+ghost use Rattle.tables.specs.Sound.{lent, bookOf, isSized};
+ghost use Rattle.tables.specs.internal.Scans.{ClausesScannable, LoadsScannable};
 ghost use Rattle.satisfaction.specs.Satisfied.{clauseTest, loadTest};
-ghost use Rattle.evaluator.specs.Evaluate.{undecidedTest, settingTest, evaluated, stoppedOr, evaluateOf, Answers, Lent};
+ghost use Rattle.evaluator.specs.Evaluate.{undecidedTest, settingTest, evaluationSlices, evaluated, stoppedOr, evaluateOf, Answers};
+ghost use Rattle.evaluator.specs.internal.Lent.{Lent};
 use rounds::bad_setting;
 use rounds::evaluate_stages;
 use satisfaction::satisfaction_fault;
@@ -16,6 +16,7 @@ use tables::Fault;
 use tables::Found;
 use tables::Verdict;
 use tables::marks::mark_heads;
+use tables::sizes::MAX_ATOMS;
 use tables::sizes::table_fault;
 use tables::values::not_held_atom;
 
@@ -49,7 +50,7 @@ fn model_fault(
 
 // Whether the four slices all have as many entries as there are atoms.
 fn lengths_fit(atoms: usize, setting: usize, values: usize, levels: usize, work: usize) -> bool
-    ensures { λ r. ⌜ r ≡ all (λ n. eqb n atoms) (setting ∷ values ∷ levels ∷ work ∷ []) ⌝ }
+    ensures { λ r. ⌜ r ≡ all isSized (evaluationSlices atoms setting values levels work) ⌝ }
 {
     (setting == atoms) & ((values == atoms) & ((levels == atoms) & (work == atoms)))
 }
@@ -79,7 +80,7 @@ fn evaluate_lent(
         (now («load_literals» .entry)) (now (minutes .entry))) (now (setting .entry))))
         (r .verdict) (r .rounds) (now (values .exit)) (now (levels .exit)) (now (work .exit)) ⌝ }
 {
-    let mut defined = [0u8; 1024];
+    let mut defined = [0u8; MAX_ATOMS];
     mark_heads(rules, &mut defined);
     if let Found::At(atom) = bad_setting(&defined, setting) {
         return Answer {

@@ -124,7 +124,8 @@ more-written acc (b ∷ bs) p = step (λ q. more-written (acc * 10 + (b - 48)) b
   where
     step :
         (0 < acc * 10 + (b - 48) → Holds (λ n rest. decimal (acc * 10 + (b - 48)) ++ bs ≡ decimal n ++ rest) (moreDigits (acc * 10 + (b - 48)) bs)) →
-        (t : Bool) → isDigit b ≡ t → Holds (λ n rest. decimal acc ++ (b ∷ bs) ≡ decimal n ++ rest) (cond t (moreDigits (acc * 10 + (b - 48)) bs) (got acc (b ∷ bs)))
+        (t : Bool) → isDigit b ≡ t →
+        Holds (λ n rest. decimal acc ++ (b ∷ bs) ≡ decimal n ++ rest) (cond t (moreDigits (acc * 10 + (b - 48)) bs) (got acc (b ∷ bs)))
     step later true t =
         let d = digit-is b t in
         let back : 48 + (b - 48) ≡ b = omega arith in

@@ -153,7 +153,8 @@ form-written bytes = step (readAs (kindOf bytes) (drop (length (wordOf (kindOf b
 
 -- A line parses as a form exactly if it is that form's rendering.
 all-read :
-    (line : List ℕ) (r : Reading Form) → Holds (λ f rest. line ≡ render f ++ rest) r → Holds (λ f rest. (render f ≡ line) × (rest ≡ [])) (whole r)
+    (line : List ℕ) (r : Reading Form) → Holds (λ f rest. line ≡ render f ++ rest) r →
+    Holds (λ f rest. (render f ≡ line) × (rest ≡ [])) (whole r)
 unfolding whole
 all-read line (got f []) h = (sym (h ∙ append-nil (render f)), refl)
 all-read line (got f (b ∷ bs)) h = tt

@@ -54,7 +54,9 @@ module _ {A : Type 0} (bytes : A → List ℕ) (item : List ℕ → Reading A) (
       Goal : List A → List ℕ → Type 0
       Goal xs rest = b ∷ bs ≡ partsBytes bytes xs ++ rest
 
-      step : ((cs : List ℕ) → Holds (λ xs rest. cs ≡ partsBytes bytes xs ++ rest) (readParts item fuel cs)) → Holds Goal (readParts item (suc fuel) (b ∷ bs))
+      step :
+          ((cs : List ℕ) → Holds (λ xs rest. cs ≡ partsBytes bytes xs ++ rest) (readParts item fuel cs)) →
+          Holds Goal (readParts item (suc fuel) (b ∷ bs))
       step later =
           holds-cond Goal (eqb b closing) (got [] bs) _ (λ t. ap (λ (c : ℕ). c ∷ bs) (eqb-true b 41 t)) λ f.
           holds-cond Goal (eqb b space) _ refused
@@ -74,7 +76,9 @@ module _ {A : Type 0} (bytes : A → List ℕ) (item : List ℕ → Reading A) (
   parts-as : (bs : List ℕ) (xs : List A) (rest : List ℕ) → bs ≡ partsBytes bytes xs ++ rest → parts item bs ≡ got xs rest
   parts-as bs xs rest e = ap (λ (cs : List ℕ). parts item cs) e ∙ parts-reads xs rest
 
-  fuel-as : (fuel : ℕ) (bs : List ℕ) (xs : List A) (rest : List ℕ) → length bs ≤ fuel → bs ≡ partsBytes bytes xs ++ rest → readParts item fuel bs ≡ got xs rest
+  fuel-as :
+      (fuel : ℕ) (bs : List ℕ) (xs : List A) (rest : List ℕ) → length bs ≤ fuel → bs ≡ partsBytes bytes xs ++ rest →
+      readParts item fuel bs ≡ got xs rest
   fuel-as fuel bs xs rest l e =
       ap (λ (cs : List ℕ). readParts item fuel cs) e ∙ parts-reads-with fuel xs rest (omega (arith, parts-many bytes xs rest, ap (λ (cs : List ℕ). length cs) e))
 

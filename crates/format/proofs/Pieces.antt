@@ -11,7 +11,7 @@ use borrow.Author.Tests.{eqb-true, ne-eqb}
 use Rattle.wellfounded.proofs.Tests.{first}
 use Rattle.format.specs.Forms.{LiteralText, TermText, PairText, space, opening, closing, minus, notWord}
 use Rattle.format.specs.Forms.{decimal, signed, literalBytes, termBytes, pairBytes}
-use Rattle.format.specs.Parse.{Reading, got, refused, Holds, andThen, skip, isDigit, startsWithDigit, moreDigits, readNumber, negative}
+use Rattle.format.specs.Parse.{Reading, got, refused, Holds, andThen, skip, isDigit, startsWithDigit, moreDigits, readNumber, asNegative}
 use Rattle.format.specs.Parse.{readSigned, readNegated, readLiteral, readTerm, readPair}
 use Rattle.format.proofs.Readings.{holds-use, holds-cond, holds-then, skip-written}
 use Rattle.format.proofs.Decimals.{number-reads, number-written, digit-is}
@@ -66,22 +66,22 @@ literal-digit [] t = absurd (false≢true t)
 literal-digit (b ∷ bs) t = rw (no-opening b t)
 
 signed-reads : (z : ℤ) (rest : List ℕ) → startsWithDigit rest ≡ false → readSigned (signed z ++ rest) ≡ got z rest
-unfolding signed readSigned andThen negative
+unfolding signed readSigned andThen asNegative
 signed-reads (pos n) rest e = signed-digit (decimal n ++ rest) (decimal-starts n rest e) ∙ rw (number-reads n rest e)
 signed-reads (negsuc n) rest e = rw (number-reads (suc n) rest e)
 
 signed-written : (bs : List ℕ) → Holds (λ z rest. bs ≡ signed z ++ rest) (readSigned bs)
-unfolding readSigned signed negative
+unfolding readSigned signed asNegative
 signed-written [] = tt
 signed-written (b ∷ bs) =
-    holds-cond Goal (eqb b minus) (andThen (readNumber bs) negative) (andThen (readNumber (b ∷ bs)) (λ n rest. got (pos n) rest))
-    (λ t. holds-then (λ n rest. bs ≡ decimal n ++ rest) Goal (readNumber bs) negative (number-written bs) (λ n rest e. below n rest (eqb-true b 45 t) e))
+    holds-cond Goal (eqb b minus) (andThen (readNumber bs) asNegative) (andThen (readNumber (b ∷ bs)) (λ n rest. got (pos n) rest))
+    (λ t. holds-then (λ n rest. bs ≡ decimal n ++ rest) Goal (readNumber bs) asNegative (number-written bs) (λ n rest e. below n rest (eqb-true b 45 t) e))
     (λ f. holds-then (λ n rest. b ∷ bs ≡ decimal n ++ rest) Goal (readNumber (b ∷ bs)) _ (number-written (b ∷ bs)) (λ n rest e. e))
   where
     Goal : ℤ → List ℕ → Type 0
     Goal z rest = b ∷ bs ≡ signed z ++ rest
 
-    below : (n : ℕ) (rest : List ℕ) → b ≡ 45 → bs ≡ decimal n ++ rest → Holds Goal (negative n rest)
+    below : (n : ℕ) (rest : List ℕ) → b ≡ 45 → bs ≡ decimal n ++ rest → Holds Goal (asNegative n rest)
     below zero rest m e = tt
     below (suc n) rest m e = rw (m, e)
 

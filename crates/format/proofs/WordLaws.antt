@@ -34,7 +34,8 @@ not-skipped (w ∷ ws) [] h = refl
 not-skipped (w ∷ ws) (b ∷ bs) h = step (eqb w b) (not-skipped ws bs) h
   where
     step :
-        (t : Bool) → (startsWith ws bs ≡ false → skip ws bs ≡ refused) → (t && startsWith ws bs) ≡ false → cond t (skip ws bs) refused ≡ refused
+        (t : Bool) → (startsWith ws bs ≡ false → skip ws bs ≡ refused) → (t && startsWith ws bs) ≡ false →
+        cond t (skip ws bs) refused ≡ refused
     step true later h = later h
     step false later h = refl
 

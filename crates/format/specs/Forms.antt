@@ -44,7 +44,7 @@ minus = 45
 abbrev pub lineEnd : ℕ
 lineEnd = 10
 
--- A number in base ten, without leading zeros. `fuel` bounds how many digits are written; the number itself is enough.
+-- A number in base ten, without leading zeros. `fuel` bounds how many digits are written; one more than the number is enough.
 unfoldable pub decimalWith : ℕ → ℕ → List ℕ → List ℕ
 decimalWith zero n rest = rest
 decimalWith (suc fuel) n rest = let here = (48 + n % 10) ∷ rest in let more = decimalWith fuel (n / 10) here in cond (ltb n 10) here more

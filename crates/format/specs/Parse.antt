@@ -54,13 +54,13 @@ readNumber (b ∷ bs) =
     cond (isDigit b && not (eqb b 48 && startsWithDigit bs)) later refused
 
 -- A signed number: a minus stands only before a nonzero one.
-unfoldable pub negative : ℕ → List ℕ → Reading ℤ
-negative zero rest = refused
-negative (suc n) rest = got (negsuc n) rest
+unfoldable pub asNegative : ℕ → List ℕ → Reading ℤ
+asNegative zero rest = refused
+asNegative (suc n) rest = got (negsuc n) rest
 
 unfoldable pub readSigned : List ℕ → Reading ℤ
 readSigned [] = refused
-readSigned (b ∷ bs) = cond (eqb b minus) (andThen (readNumber bs) negative) (andThen (readNumber (b ∷ bs)) (λ n rest. got (pos n) rest))
+readSigned (b ∷ bs) = cond (eqb b minus) (andThen (readNumber bs) asNegative) (andThen (readNumber (b ∷ bs)) (λ n rest. got (pos n) rest))
 
 -- A literal: `(not A)` or an atom.
 unfoldable pub readNegated : List ℕ → Reading LiteralText

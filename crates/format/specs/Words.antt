@@ -18,7 +18,7 @@ startsWith (w ∷ ws) (b ∷ bs) = eqb w b && startsWith ws bs
 unfoldable pub wordAt : List ℕ → ℕ → List ℕ → Bool
 wordAt text at word = startsWith word (drop at text)
 
--- The word that forms of a kind begin with; no two begin alike.
+-- The word that forms of a kind begin with; no word is the beginning of another.
 unfoldable pub wordOf : Kind → List ℕ
 wordOf Atoms = atomsWord
 wordOf Rule = ruleWord

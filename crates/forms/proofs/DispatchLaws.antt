@@ -1,100 +1,37 @@
--- Laws of forms read at an offset: the word that stands there tells how a form is read on and what it adds to the tables, and a byte ends its line.
+-- Laws of forms read at an offset: the word that stands there tells how a form is read on and what it adds to the tables.
 -- Assumes nothing.
-use Prim.Native.Nat.{ℕ, _+_, _-_, _≤_, _<_}
-use mathlib.Core.Path.{_≡_, refl, sym, ap, _∙_}
-use mathlib.Core.Bool.{Bool, true, false, not}
+use Prim.Native.Nat.{ℕ, _+_, _-_}
+use mathlib.Core.Path.{_≡_, refl, sym, ap, fun-ext, _∙_}
 use mathlib.Core.List.{List, [], _∷_, _++_, map}
 use native.Mathlib.Omega.{arith}
 use lib.IntN.{ℤ}
 use lib.ListN.{length, drop, length-append, length-drop}
-use lib.Seq.{sets, drop-drop, drop-append-seam}
-use borrow.Author.Tests.{not-true, not-false}
+use lib.Seq.{sets, drop-drop}
 use Rattle.format.specs.declared.kinds.Kind.{Kind}
 use Rattle.format.specs.declared.kinds.Kind.the-variants.{Atoms, Rule, Clause, Load, Open, Claim, Unknown}
 use Rattle.format.specs.Forms.{LiteralText, TermText, PairText, Form, atomsForm, ruleForm, clauseForm, loadForm, openForm, claimForm}
-use Rattle.format.specs.Forms.{space, closing, lineEnd, render}
-use Rattle.format.specs.Words.{wordAt, wordOf, kindAt}
+use Rattle.format.specs.Forms.{space, closing}
+use Rattle.format.specs.Views.{viewOf, ofKind, sameKind, kindNumber}
+use Rattle.format.specs.Words.{wordOf, kindAt}
 use Rattle.format.specs.Parse.{Reading, got, refused, Holds, andThen, skip, readNumber, readSigned, readLiteral, readTerm, readPair, parts}
-use Rattle.format.specs.Parse.{readAtoms, readRule, readClause, readLoad, readOpen, readClaim, readAs, readForm, readLine}
+use Rattle.format.specs.Parse.{readAtoms, readRule, readClause, readLoad, readOpen, readClaim, readAs, readForm}
 use Rattle.items.specs.Items.{literalCode}
-use Rattle.format.proofs.Readings.{holds-use}
-use Rattle.format.proofs.Lines.{kind-begins, form-written}
-use Rattle.items.proofs.ItemLaws.{byte-got, byte-none}
+use Rattle.format.proofs.Lines.{kind-begins}
 use Rattle.judging.specs.declared.reached.Reached.{Reached}
-use Rattle.judging.specs.declared.reached.Shape.{Shape}
-use Rattle.judging.specs.Shapes.{shapeOf}
-use Rattle.lists.specs.Lists.{Inside}
+use Rattle.judging.specs.LentTables.{Rules, Literals, Clauses, Loads, LoadLiterals, Minutes, Values, Levels}
+use Rattle.judging.specs.States.{countIn}
+use Rattle.judging.proofs.TableLaws.{each-table}
+use Rattle.lists.specs.internal.Lists.{Inside}
 use Rattle.forms.specs.declared.Line.{Line}
-use Rattle.forms.specs.declared.Line.the-variants.{Formed, NoForm}
-use Rattle.forms.specs.Entries.{Contents, entriesOf, store, literalsIn, termsIn, ruleRow, clauseRow, loadRow, stateValues, stateLevels}
-use Rattle.forms.specs.Readers.{formed, Fine, Forms}
+use Rattle.forms.specs.declared.Line.the-variants.{NoForm}
+use Rattle.forms.specs.Contents.{Contents, lentTables}
+use Rattle.forms.specs.Entries.{entriesOf, givenAnew, literalsIn, termsIn, ruleRow, clauseRow, loadRow, stateValues, stateLevels}
+use Rattle.forms.specs.internal.Stores.{placeIn, store}
+use Rattle.forms.specs.internal.Readers.{formed, WellPlaced, Forms}
 
 -- The entries of a form are stored.
 abbrev pub Stored : Reached → Contents → Contents → Form → Type 0
 Stored s before afterwards f = afterwards ≡ store s (entriesOf s f) before
-
--- What is left after some bytes at an offset begins at the next one.
-pub rest-at :
-    (text bytes rest : List ℕ) {at : ℕ} → at ≤ length text → drop at text ≡ bytes ++ rest →
-    (length text - length rest ≡ at + length bytes) × (drop (length text - length rest) text ≡ rest)
-rest-at text bytes rest {at} l e =
-    let sum : length text - at ≡ length bytes + length rest = sym (length-drop at text) ∙ ap length e ∙ length-append bytes rest in
-    let next : length text - length rest ≡ at + length bytes = omega arith in
-    (next, rw (next, ← drop-drop (length bytes) at text, e) (drop-append-seam bytes rest))
-
--- ── The byte that ends a line ──
-
--- A form was read at an offset, and its line goes on at the next one.
-record FormAt (s : Reached) (text : List ℕ) (at : ℕ) (shape : Shape) (next : ℕ) (f : Form) : Type 0 where
-  reads : readForm (drop at text) ≡ got f (drop next text)
-  shaped : shape ≡ shapeOf s f
-  inside : next ≤ length text
-
-form-at :
-    {s : Reached} {text : List ℕ} {at : ℕ} {line : Line} {shape : Shape} {next : ℕ} → Inside text at → line ≡ formed s text (readForm (drop at text)) →
-    line ≡ Formed shape next → (f : Form) × FormAt s text at shape next f
-unfolding formed
-form-at {s} {text} {at} {line} {shape} {next} inside a e = step (readForm (drop at text)) refl (sym a ∙ e)
-  where
-    step : (r : Reading Form) → readForm (drop at text) ≡ r → formed s text r ≡ Formed shape next → (f : Form) × FormAt s text at shape next f
-    step (got f rest) d t =
-        let k = rest-at text (render f) rest (inside .reached) (holds-use (λ g end. drop at text ≡ render g ++ end) (form-written (drop at text)) d) in
-        let on : next ≡ length text - length rest = cc in
-        (f, record { reads = rw (on, k .1) d; shaped = cc; inside = omega arith })
-    step refused d t = let z : _≡_ {A = ℕ} 0 1 = cc in absurd (omega arith)
-
-module _ {s : Reached} {text : List ℕ} {at : ℕ} {line : Line} {written : Form → Type 0} (inside : Inside text at)
-    (read : Forms s text (readForm (drop at text)) line written) where
-  pub line-no-form : line ≡ NoForm → Forms s text (readLine (drop at text)) NoForm written
-  unfolding readLine andThen formed
-  line-no-form e = step (readForm (drop at text)) refl (sym (read .answered) ∙ e)
-    where
-      step : (r : Reading Form) → readForm (drop at text) ≡ r → formed s text r ≡ NoForm → Forms s text (readLine (drop at text)) NoForm written
-      step (got f rest) d t = let z : _≡_ {A = ℕ} 0 1 = cc in absurd (omega arith)
-      step refused d t = rw d record { answered = refl; laid = tt }
-
-  module _ {shape : Shape} {next : ℕ} {byte : Bool} (e : line ≡ Formed shape next) (b : byte ≡ wordAt text next (lineEnd ∷ [])) where
-    pub line-unended : not byte ≡ true → Forms s text (readLine (drop at text)) NoForm written
-    unfolding readLine andThen formed
-    line-unended n =
-        let k = form-at inside (read .answered) e in
-        rw (k .1 .reads, byte-none text next lineEnd (sym b ∙ not-true byte n)) record { answered = refl; laid = tt }
-
-    pub line-byte : not byte ≡ false → next < length text
-    line-byte n = byte-got text next lineEnd (sym b ∙ not-false byte n) .1
-
-    pub line-ended : not byte ≡ false → Forms s text (readLine (drop at text)) (Formed shape (next + 1)) written
-    unfolding readLine andThen formed
-    line-ended n =
-        let k = form-at inside (read .answered) e in
-        let g = byte-got text next lineEnd (sym b ∙ not-false byte n) in
-        let after : next + 1 ≡ length text - length (drop (next + 1) text) = rw length-drop (omega (arith, g .1)) in
-        rw (k .1 .reads, g .0) record {
-          answered = ap (λ (p : Shape). Formed p (next + 1)) (k .1 .shaped) ∙ ap (Formed (shapeOf s (k .0))) after;
-          laid = (rw (k .1 .reads) at (read .laid));
-        }
-
--- ── The word that tells the kind ──
 
 -- A form is read on from after the word of its kind.
 module _ {text : List ℕ} {at : ℕ} {result : Kind} (inside : Inside text at) (is : result ≡ kindAt text at) where
@@ -153,129 +90,103 @@ module _ (P : Form → Type 0) (bytes : List ℕ) where
 -- What a form of some kind has written is what its entries ask.
 lifted :
     {s : Reached} {text : List ℕ} {answer : Line} (bytes : List ℕ) {written : Form → Type 0} (stored : Form → Type 0) (r : Reading Form) →
-    readForm bytes ≡ r → Holds (λ f rest. written f → stored f) r → Forms s text r answer written → Forms s text (readForm bytes) answer stored
+    readForm bytes ≡ r → Holds (λ f rest. written f → stored f) r → Forms s text r answer written →
+    Forms s text (readForm bytes) answer stored
 lifted bytes stored (got f rest) e h read = rw e record { answered = read .answered; laid = λ fine. h (read .laid fine) }
 lifted bytes stored refused e h read = rw e record { answered = read .answered; laid = tt }
 
--- A form of each kind, read after its word. It adds to the tables of its kind, and the others are left as they were.
-module _ {s : Reached} {text : List ℕ} (at : ℕ) {result : Kind} {answer : Line} (before after : Contents) (is : result ≡ kindAt text at) where
-  pub rule-form :
-      result ≡ Rule →
-      after ≡ record {
-        rules = after .rules;
-        literals = after .literals;
-        clauses = before .clauses;
-        loads = before .loads;
-        loadLiterals = before .loadLiterals;
-        minutes = before .minutes;
-        values = before .values;
-        levels = before .levels;
-      } →
-      Forms s text (readRule (drop (at + 5) text)) answer (λ f.
-      (after .rules ≡ sets (before .rules) (s .rules) (ruleRow s f))
-      × (after .literals ≡ sets (before .literals) (s .literals) (map literalCode (literalsIn f)))) →
-      Forms s text (readForm (drop at text)) answer (Stored s before after)
-  unfolding readAs wordOf store entriesOf literalsIn termsIn ruleRow clauseRow loadRow stateValues stateLevels
-  rule-form e same read =
-      lifted (drop at text) (Stored s before after) (readRule (drop (at + 5) text)) (read-as text at Rule is e)
-      (only-rules _ _ λ head ls w. same ∙ rw (w .0, w .1)) read
+-- A form's entries are stored where each table has them.
+stored-tables :
+    (s : Reached) (f : Form) (before after : Contents) → after Rules ≡ store s (entriesOf s f) before Rules →
+    after Literals ≡ store s (entriesOf s f) before Literals → after Clauses ≡ store s (entriesOf s f) before Clauses →
+    after Loads ≡ store s (entriesOf s f) before Loads → after LoadLiterals ≡ store s (entriesOf s f) before LoadLiterals →
+    after Minutes ≡ store s (entriesOf s f) before Minutes → after Values ≡ store s (entriesOf s f) before Values →
+    after Levels ≡ store s (entriesOf s f) before Levels → Stored s before after f
+stored-tables s f before after r l c d o m v k =
+    fun-ext (each-table (λ table. after table ≡ store s (entriesOf s f) before table) r l c d o m v k)
 
-  pub clause-form :
-      result ≡ Clause →
-      after ≡ record {
-        rules = before .rules;
-        literals = after .literals;
-        clauses = after .clauses;
-        loads = before .loads;
-        loadLiterals = before .loadLiterals;
-        minutes = before .minutes;
-        values = before .values;
-        levels = before .levels;
-      } →
-      Forms s text (readClause (drop (at + 7) text)) answer (λ f.
-      (after .clauses ≡ sets (before .clauses) (s .clauses) (clauseRow s f))
-      × (after .literals ≡ sets (before .literals) (s .literals) (map literalCode (literalsIn f)))) →
-      Forms s text (readForm (drop at text)) answer (Stored s before after)
-  unfolding readAs wordOf store entriesOf literalsIn termsIn ruleRow clauseRow loadRow stateValues stateLevels
-  clause-form e same read =
-      lifted (drop at text) (Stored s before after) (readClause (drop (at + 7) text)) (read-as text at Clause is e)
-      (only-clauses _ _ λ ls w. same ∙ rw (w .0, w .1)) read
-
-  pub load-form :
-      result ≡ Load →
-      after ≡ record {
-        rules = before .rules;
-        literals = before .literals;
-        clauses = before .clauses;
-        loads = after .loads;
-        loadLiterals = after .loadLiterals;
-        minutes = after .minutes;
-        values = before .values;
-        levels = before .levels;
-      } →
-      Forms s text (readLoad (drop (at + 5) text)) answer (λ f.
-      (after .loads ≡ sets (before .loads) (s .loads) (loadRow s f))
-      × (after .loadLiterals ≡ sets (before .loadLiterals) (s .terms) (map (λ (t : TermText). literalCode (t .literal)) (termsIn f)))
-      × (after .minutes ≡ sets (before .minutes) (s .terms) (map (λ (t : TermText). t .minutes) (termsIn f)))) →
-      Forms s text (readForm (drop at text)) answer (Stored s before after)
-  unfolding readAs wordOf store entriesOf literalsIn termsIn ruleRow clauseRow loadRow stateValues stateLevels
-  load-form e same read =
-      lifted (drop at text) (Stored s before after) (readLoad (drop (at + 5) text)) (read-as text at Load is e)
-      (only-loads _ _ λ lo hi ts w. same ∙ rw (w .0, w .1, w .2)) read
-
-  pub open-form :
-      result ≡ Open →
-      after ≡ record {
-        rules = before .rules;
-        literals = before .literals;
-        clauses = before .clauses;
-        loads = before .loads;
-        loadLiterals = before .loadLiterals;
-        minutes = before .minutes;
-        values = after .values;
-        levels = before .levels;
-      } →
-      Forms s text (readOpen (drop (at + 5) text)) answer (λ f. after .values ≡ sets (before .values) 0 (stateValues s f)) →
-      Forms s text (readForm (drop at text)) answer (Stored s before after)
-  unfolding readAs wordOf store entriesOf literalsIn termsIn ruleRow clauseRow loadRow stateValues stateLevels
-  open-form e same read =
-      lifted (drop at text) (Stored s before after) (readOpen (drop (at + 5) text)) (read-as text at Open is e)
-      (only-open _ _ λ atoms w. same ∙ rw w) read
-
-  pub claim-form :
-      result ≡ Claim →
-      after ≡ record {
-        rules = before .rules;
-        literals = before .literals;
-        clauses = before .clauses;
-        loads = before .loads;
-        loadLiterals = before .loadLiterals;
-        minutes = before .minutes;
-        values = after .values;
-        levels = after .levels;
-      } →
-      Forms s text (readClaim (drop (at + 6) text)) answer (λ f.
-      (after .values ≡ sets (before .values) 0 (stateValues s f))
-      × (after .levels ≡ sets (before .levels) 0 (stateLevels f))) →
-      Forms s text (readForm (drop at text)) answer (Stored s before after)
-  unfolding readAs wordOf store entriesOf literalsIn termsIn ruleRow clauseRow loadRow stateValues stateLevels
-  claim-form e same read =
-      lifted (drop at text) (Stored s before after) (readClaim (drop (at + 6) text)) (read-as text at Claim is e)
-      (only-claims _ _ λ ps w. same ∙ rw (w .0, w .1)) read
-
--- An atoms form adds nothing.
+-- No word of a form stands at the offset.
 module _ {s : Reached} {text : List ℕ} (at : ℕ) {result : Kind} (before : Contents) (is : result ≡ kindAt text at) where
-  pub atoms-form :
-      {answer : Line} → result ≡ Atoms → answer ≡ formed s text (readAtoms (drop (at + 6) text)) →
-      Forms s text (readForm (drop at text)) answer (Stored s before before)
-  unfolding readAs wordOf store entriesOf literalsIn termsIn ruleRow clauseRow loadRow stateValues stateLevels
-  atoms-form e a =
-      let bytes = drop (at + 6) text in
-      lifted (drop at text) (Stored s before before) (readAtoms bytes) (read-as text at Atoms is e)
-      (only-atoms _ _ λ n w. refl)
-      record { answered = a; laid = only-atoms (λ f. Fine s f → Unit {0}) bytes (λ n fine. tt) }
-
-  -- No word of a form stands there.
   pub no-kind : result ≡ Unknown → Forms s text (readForm (drop at text)) NoForm (Stored s before before)
   unfolding readAs formed
   no-kind e = rw (read-as text at Unknown is e) record { answered = refl; laid = tt }
+
+-- A form of each kind, read after its word. It adds to the tables of its kind, and the others are left as they were.
+module _ {s : Reached} {text : List ℕ} (at : ℕ) {result : Kind} {answer : Line} (before : Contents) (is : result ≡ kindAt text at) where
+  -- An atoms form adds nothing.
+  pub atoms-form :
+      result ≡ Atoms → answer ≡ formed s text (readAtoms (drop (at + 6) text)) →
+      Forms s text (readForm (drop at text)) answer (Stored s before before)
+  unfolding readAs wordOf lentTables store placeIn givenAnew countIn entriesOf literalsIn termsIn ruleRow clauseRow loadRow stateValues stateLevels viewOf ofKind sameKind kindNumber
+  atoms-form e a =
+      let bytes = drop (at + 6) text in
+      lifted (drop at text) (Stored s before before) (readAtoms bytes) (read-as text at Atoms is e)
+      (only-atoms _ _ λ n w. stored-tables s (atomsForm n) before before refl refl refl refl refl refl refl refl)
+      record { answered = a; laid = only-atoms (λ f. WellPlaced s f → Unit {0}) bytes (λ n fine. tt) }
+
+  pub rule-form :
+      (rules₁ literals₁ : List ℕ) → result ≡ Rule →
+      Forms s text (readRule (drop (at + 5) text)) answer (λ f.
+      (rules₁ ≡ sets (before Rules) (s .rules) (ruleRow s f)) ×
+      (literals₁ ≡ sets (before Literals) (s .literals) (map literalCode (literalsIn f)))) →
+      Forms s text (readForm (drop at text)) answer
+      (Stored s before
+      (lentTables rules₁ literals₁ (before Clauses) (before Loads) (before LoadLiterals) (before Minutes) (before Values)
+      (before Levels)))
+  unfolding readAs wordOf lentTables store placeIn givenAnew countIn entriesOf literalsIn termsIn ruleRow clauseRow loadRow stateValues stateLevels viewOf ofKind sameKind kindNumber
+  rule-form rules₁ literals₁ e read =
+      lifted (drop at text) (Stored s before _) (readRule (drop (at + 5) text)) (read-as text at Rule is e)
+      (only-rules _ _ λ head ls w. stored-tables s (ruleForm head ls) before _ (w .0) (w .1) refl refl refl refl refl refl) read
+
+  pub clause-form :
+      (literals₁ clauses₁ : List ℕ) → result ≡ Clause →
+      Forms s text (readClause (drop (at + 7) text)) answer (λ f.
+      (clauses₁ ≡ sets (before Clauses) (s .clauses) (clauseRow s f)) ×
+      (literals₁ ≡ sets (before Literals) (s .literals) (map literalCode (literalsIn f)))) →
+      Forms s text (readForm (drop at text)) answer
+      (Stored s before
+      (lentTables (before Rules) literals₁ clauses₁ (before Loads) (before LoadLiterals) (before Minutes) (before Values)
+      (before Levels)))
+  unfolding readAs wordOf lentTables store placeIn givenAnew countIn entriesOf literalsIn termsIn ruleRow clauseRow loadRow stateValues stateLevels viewOf ofKind sameKind kindNumber
+  clause-form literals₁ clauses₁ e read =
+      lifted (drop at text) (Stored s before _) (readClause (drop (at + 7) text)) (read-as text at Clause is e)
+      (only-clauses _ _ λ ls w. stored-tables s (clauseForm ls) before _ refl (w .1) (w .0) refl refl refl refl refl) read
+
+  pub load-form :
+      (loads₁ : List ℤ) (loadLiterals₁ : List ℕ) (minutes₁ : List ℤ) → result ≡ Load →
+      Forms s text (readLoad (drop (at + 5) text)) answer (λ f.
+      (loads₁ ≡ sets (before Loads) (s .loads) (loadRow s f))
+      × (loadLiterals₁ ≡ sets (before LoadLiterals) (s .terms) (map (λ (t : TermText). literalCode (t .literal)) (termsIn f)))
+      × (minutes₁ ≡ sets (before Minutes) (s .terms) (map (λ (t : TermText). t .minutes) (termsIn f)))) →
+      Forms s text (readForm (drop at text)) answer
+      (Stored s before
+      (lentTables (before Rules) (before Literals) (before Clauses) loads₁ loadLiterals₁ minutes₁ (before Values) (before Levels)))
+  unfolding readAs wordOf lentTables store placeIn givenAnew countIn entriesOf literalsIn termsIn ruleRow clauseRow loadRow stateValues stateLevels viewOf ofKind sameKind kindNumber
+  load-form loads₁ loadLiterals₁ minutes₁ e read =
+      lifted (drop at text) (Stored s before _) (readLoad (drop (at + 5) text)) (read-as text at Load is e)
+      (only-loads _ _ λ lo hi ts w. stored-tables s (loadForm lo hi ts) before _ refl refl refl (w .0) (w .1) (w .2) refl refl) read
+
+  pub open-form :
+      (values₁ : List ℕ) → result ≡ Open →
+      Forms s text (readOpen (drop (at + 5) text)) answer (λ f. values₁ ≡ sets (before Values) 0 (stateValues s f)) →
+      Forms s text (readForm (drop at text)) answer
+      (Stored s before
+      (lentTables (before Rules) (before Literals) (before Clauses) (before Loads) (before LoadLiterals) (before Minutes) values₁
+      (before Levels)))
+  unfolding readAs wordOf lentTables store placeIn givenAnew countIn entriesOf literalsIn termsIn ruleRow clauseRow loadRow stateValues stateLevels viewOf ofKind sameKind kindNumber
+  open-form values₁ e read =
+      lifted (drop at text) (Stored s before _) (readOpen (drop (at + 5) text)) (read-as text at Open is e)
+      (only-open _ _ λ atoms w. stored-tables s (openForm atoms) before _ refl refl refl refl refl refl w refl) read
+
+  pub claim-form :
+      (values₁ levels₁ : List ℕ) → result ≡ Claim →
+      Forms s text (readClaim (drop (at + 6) text)) answer (λ f.
+      (values₁ ≡ sets (before Values) 0 (stateValues s f)) × (levels₁ ≡ sets (before Levels) 0 (stateLevels f))) →
+      Forms s text (readForm (drop at text)) answer
+      (Stored s before
+      (lentTables (before Rules) (before Literals) (before Clauses) (before Loads) (before LoadLiterals)
+      (before Minutes) values₁ levels₁))
+  unfolding readAs wordOf lentTables store placeIn givenAnew countIn entriesOf literalsIn termsIn ruleRow clauseRow loadRow stateValues stateLevels viewOf ofKind sameKind kindNumber
+  claim-form values₁ levels₁ e read =
+      lifted (drop at text) (Stored s before _) (readClaim (drop (at + 6) text)) (read-as text at Claim is e)
+      (only-claims _ _ λ ps w. stored-tables s (claimForm ps) before _ refl refl refl refl refl refl (w .0) (w .1)) read

@@ -1,9 +1,12 @@
 -- What the forms of a book mean, as rules, clauses and load lines.
 use Prim.Native.Nat.{ℕ}
+use mathlib.Core.Bool.{cond}
 use mathlib.Core.List.{List, [], _∷_, _++_, map}
 use Rattle.wellfounded.specs.Definitions.{Rule}
 use Rattle.tables.specs.Loads.{Term, Load}
-use Rattle.format.specs.Forms.{LiteralText, TermText, Form, atomsForm, ruleForm, clauseForm, loadForm, openForm, claimForm}
+use Rattle.format.specs.declared.kinds.Kind.the-variants as FormKind
+use Rattle.format.specs.Forms.{LiteralText, TermText, Form}
+use Rattle.format.specs.Views.{viewOf, ofKind}
 use Rattle.items.specs.Items.{literalCode}
 
 -- A body is the literals as they are stored; so is a clause.
@@ -16,30 +19,16 @@ termOf t = record { minutes = t .minutes; literal = literalCode (t .literal) }
 
 -- The rule that a form is, if it is one.
 unfoldable pub ruleIn : Form → List Rule
-ruleIn (atomsForm n) = []
-ruleIn (ruleForm h ls) = record { head = h; body = codesOf ls } ∷ []
-ruleIn (clauseForm ls) = []
-ruleIn (loadForm lo hi ts) = []
-ruleIn (openForm atoms) = []
-ruleIn (claimForm ps) = []
+ruleIn f = cond (ofKind FormKind.Rule f) (record { head = viewOf f .head; body = codesOf (viewOf f .literals) } ∷ []) []
 
 -- The clause that a form is, if it is one.
 unfoldable pub clauseIn : Form → List (List ℕ)
-clauseIn (atomsForm n) = []
-clauseIn (ruleForm h ls) = []
-clauseIn (clauseForm ls) = codesOf ls ∷ []
-clauseIn (loadForm lo hi ts) = []
-clauseIn (openForm atoms) = []
-clauseIn (claimForm ps) = []
+clauseIn f = cond (ofKind FormKind.Clause f) (codesOf (viewOf f .literals) ∷ []) []
 
 -- The load line that a form is, if it is one.
 unfoldable pub loadIn : Form → List Load
-loadIn (atomsForm n) = []
-loadIn (ruleForm h ls) = []
-loadIn (clauseForm ls) = []
-loadIn (loadForm lo hi ts) = record { low = lo; high = hi; terms = map termOf ts } ∷ []
-loadIn (openForm atoms) = []
-loadIn (claimForm ps) = []
+loadIn f =
+    cond (ofKind FormKind.Load f) (record { low = viewOf f .low; high = viewOf f .high; terms = map termOf (viewOf f .terms) } ∷ []) []
 
 -- The rules of a book, in order.
 unfoldable pub rulesIn : List Form → List Rule

@@ -33,9 +33,9 @@ ghost use Rattle.items.specs.Items.{literalCode};
 ghost use Rattle.tables.specs.Limits.{maxBound, maxAtoms};
 ghost use Rattle.judging.specs.States.{countsWithin};
 ghost use Rattle.judging.specs.Judging.{atomBound};
-ghost use Rattle.lists.specs.Lists.{Inside};
+ghost use Rattle.lists.specs.internal.Lists.{Inside};
 ghost use Rattle.forms.specs.Entries.{literalsIn, termsIn, ruleRow, clauseRow, loadRow, stateValues, stateLevels};
-ghost use Rattle.forms.specs.Readers.{Forms, formed};
+ghost use Rattle.forms.specs.internal.Readers.{Forms, formed};
 
 // The shape of a line's form with the offset after it; or no form.
 pub enum Line {
@@ -152,7 +152,8 @@ pub fn read_load_form(
     requires { ⌜ countsWithin reached ≡ true ⌝ }
     ensures { λ r. ⌜ Forms reached (now (text .entry)) (readLoad (drop at (now (text .entry)))) r
         (λ f. (now (loads .exit) ≡ sets (now (loads .entry)) (reached .loads) (loadRow reached f))
-        × (now («load_literals» .exit) ≡ sets (now («load_literals» .entry)) (reached .terms) (map (λ (t : TermText). literalCode (t .literal)) (termsIn f)))
+        × (now («load_literals» .exit)
+        ≡ sets (now («load_literals» .entry)) (reached .terms) (map (λ (t : TermText). literalCode (t .literal)) (termsIn f)))
         × (now (minutes .exit) ≡ sets (now (minutes .entry)) (reached .terms) (map (λ (t : TermText). t .minutes) (termsIn f)))) ⌝ }
 {
     if !byte_at(text, at, b' ') {

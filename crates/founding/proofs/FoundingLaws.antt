@@ -1,26 +1,26 @@
 -- Laws of founding: the marks to begin with, a row, a pass, and passes until nothing is marked.
 -- Assumes nothing.
 use Prim.Native.Nat.{ℕ, zero, suc, _+_, _≤_, _<_}
-use mathlib.Core.Path.{_≡_, refl, sym, ap, subst, _∙_}
+use mathlib.Core.Path.{_≡_, refl, sym, ap, _∙_}
 use mathlib.Core.Logic.{_⊎_, inl, inr, ⊎-elim}
 use mathlib.Core.Bool.{Bool, true, false, not, cond, _||_}
 use mathlib.Core.List.{List}
-use native.Mathlib.Nat.{le-of-suc-le-suc, not-suc-le-zero, eq-or-lt-of-le}
 use native.Mathlib.Numerals.{add-one}
 use native.Mathlib.Omega.{arith}
 use lib.Dec.{eqb}
 use lib.ListN.{length, getD, set, length-set}
 use lib.Seq.{getD-set-same, getD-set-other, set-out}
 use borrow.Author.Tests.{eqb-true, eqb-false, ne-eqb}
-use Rattle.wellfounded.specs.Lists.{iterate, count}
+use Rattle.wellfounded.specs.Lists.{iterate}
 use Rattle.wellfounded.specs.Literals.{isTrue, valueAt}
 use Rattle.wellfounded.proofs.Tests.{decided}
-use Rattle.wellfounded.proofs.Lists.{iterate-fixed, le-or-lt, count-le, count-same}
+use Rattle.wellfounded.proofs.Lists.{le-or-lt, count-le, count-flip}
+use Rattle.wellfounded.proofs.Reaches.{Reaches, reaches-start, reaches-turn, reaches-done}
 use Rattle.wellfounded.proofs.Literals.{value-beyond}
 use Rattle.tables.specs.Rows.{ruleCount, ruleHead}
-use Rattle.tables.specs.Marks.{isMarked}
+use Rattle.tables.specs.internal.Marks.{isMarked}
 use Rattle.tables.proofs.MarkLaws.{set-again}
-use Rattle.founding.specs.Founding.{rowFounds, foundRow, foundRows, foundPass, foundStart, foundAll, unmarked, Passed}
+use Rattle.founding.specs.internal.Founding.{rowFounds, foundRow, foundRows, foundPass, foundStart, foundAll, unmarked, PassDone}
 
 -- ── The marks to begin with ──
 
@@ -35,25 +35,13 @@ startMark defined values atom = cond (not (isMarked defined atom) || isTrue (val
 
 -- ── How many atoms are not marked ──
 
--- Tests that differ at one number.
-count-flip :
-    (n : ℕ) (p q : ℕ → Bool) (k : ℕ) → k < n → p k ≡ true → q k ≡ false → ((j : ℕ) → (j ≡ k → ⊥) → q j ≡ p j) → 1 + count n q ≡ count n p
-unfolding count
-count-flip zero p q k l pk qk others = absurd (not-suc-le-zero l)
-count-flip (suc n) p q k l pk qk others =
-    ⊎-elim
-    (λ (here : k ≡ n).
-    rw (← here, pk, qk, here, count-same n q p (λ j b. others j (λ e. omega arith))) (omega arith))
-    (λ (below : k < n).
-    rw (others n (λ e. omega arith), ← count-flip n p q k below pk qk others) (omega arith))
-    (eq-or-lt-of-le (le-of-suc-le-suc l))
-
 pub unmarked-le : (marks : List ℕ) → unmarked marks ≤ length marks
 unfolding unmarked
 unmarked-le marks = count-le _ _
 
 -- One more mark.
-pub unmarked-set : (marks : List ℕ) (head : ℕ) → head < length marks → (getD marks head 0 ≡ 1 → ⊥) → 1 + unmarked (set marks head 1) ≡ unmarked marks
+pub unmarked-set :
+    (marks : List ℕ) (head : ℕ) → head < length marks → (getD marks head 0 ≡ 1 → ⊥) → 1 + unmarked (set marks head 1) ≡ unmarked marks
 unfolding unmarked isMarked
 unmarked-set marks head l new =
     rw (length-set marks head 1)
@@ -65,35 +53,39 @@ unmarked-set marks head l new =
 -- The code's row, which reads the head first.
 module _ (rules literals state marks : List ℕ) (row head : ℕ) (is : head ≡ ruleHead rules row) where
   -- A row whose head is marked changes nothing,
-  pub row-marked : getD marks head 0 ≡ 1 → marks ≡ foundRow rules literals state marks row
+  pub found-row-again : getD marks head 0 ≡ 1 → marks ≡ foundRow rules literals state marks row
   unfolding foundRow
-  row-marked e = rw (← is, set-again marks head e) (step (rowFounds rules literals state marks row))
+  found-row-again e = rw (← is, set-again marks head e) (step (rowFounds rules literals state marks row))
     where
       step : (b : Bool) → marks ≡ cond b marks marks
       step true = refl
       step false = refl
 
   -- nor does one that does not found it,
-  pub row-passes : {founds : Bool} → founds ≡ rowFounds rules literals state marks row → founds ≡ false → marks ≡ foundRow rules literals state marks row
+  pub found-row-none :
+      {founds : Bool} → founds ≡ rowFounds rules literals state marks row → founds ≡ false →
+      marks ≡ foundRow rules literals state marks row
   unfolding foundRow
-  row-passes so e = rw (← so, e)
+  found-row-none so e = rw (← so, e)
 
   -- and one that founds it marks it.
-  pub row-marks : {founds : Bool} → founds ≡ rowFounds rules literals state marks row → founds ≡ true → set marks head 1 ≡ foundRow rules literals state marks row
+  pub found-row-puts :
+      {founds : Bool} → founds ≡ rowFounds rules literals state marks row → founds ≡ true →
+      set marks head 1 ≡ foundRow rules literals state marks row
   unfolding foundRow
-  row-marks so e = rw (← so, e, is)
+  found-row-puts so e = rw (← so, e, is)
 
   -- In all, a row changes nothing, or leaves fewer unmarked.
   row-settles-at : (foundRow rules literals state marks row ≡ marks) ⊎ (unmarked (foundRow rules literals state marks row) < unmarked marks)
   row-settles-at =
       ⊎-elim
       (λ (founds : rowFounds rules literals state marks row ≡ true).
-      ⊎-elim (λ (here : eqb (getD marks head 0) 1 ≡ true). inl (sym (row-marked (eqb-true _ _ here))))
+      ⊎-elim (λ (here : eqb (getD marks head 0) 1 ≡ true). inl (sym (found-row-again (eqb-true _ _ here))))
       (λ (new : eqb (getD marks head 0) 1 ≡ false).
-      ⊎-elim (λ (beyond : length marks ≤ head). inl (sym (row-marks refl founds) ∙ set-out marks head 1 beyond))
-      (λ (l : head < length marks). inr (rw (← row-marks refl founds) (omega (arith, unmarked-set marks head l (eqb-false _ _ new)))))
+      ⊎-elim (λ (beyond : length marks ≤ head). inl (sym (found-row-puts refl founds) ∙ set-out marks head 1 beyond))
+      (λ (l : head < length marks). inr (rw (← found-row-puts refl founds) (omega (arith, unmarked-set marks head l (eqb-false _ _ new)))))
       (le-or-lt (length marks) head)) (decided (eqb (getD marks head 0) 1)))
-      (λ (none : rowFounds rules literals state marks row ≡ false). inl (sym (row-passes refl none)))
+      (λ (none : rowFounds rules literals state marks row ≡ false). inl (sym (found-row-none refl none)))
       (decided (rowFounds rules literals state marks row))
 
 module _ (rules literals state : List ℕ) where
@@ -138,51 +130,17 @@ module _ {rules literals state before : List ℕ} where
 
   pub passed-turn :
       (n marked more : ℕ) (marks after : List ℕ) → after ≡ foundRow rules literals state marks n → more + unmarked after ≡ unmarked marks →
-      length after ≡ length marks → PassedTo rules literals state before n marks marked → PassedTo rules literals state before (n + 1) after (marked + more)
+      length after ≡ length marks → PassedTo rules literals state before n marks marked →
+      PassedTo rules literals state before (n + 1) after (marked + more)
   unfolding foundRows
   passed-turn n marked more marks after e few long p =
       record { is = rw add-one (e ∙ ap (λ (m : List ℕ). foundRow rules literals state m n) (p .is)); fewer = omega arith; long = long ∙ p .long }
 
   pub passed-end :
       {n : ℕ} (marks : List ℕ) (marked : ℕ) → n ≡ ruleCount rules → PassedTo rules literals state before n marks marked →
-      Passed rules literals state before marks marked
+      PassDone rules literals state before marks marked
   unfolding foundPass
   passed-end marks marked e p = record { is = rw e at (p .is); fewer = p .fewer }
-
--- ── Repeat until nothing changes ──
-
--- So many further turns as w may still need lead from w to the goal.
-pub record Reaches {A : Type 0} (measure : A → ℕ) (f : A → A) (goal w : A) : Type 0 where
-  pub fuel : ℕ
-  pub enough : measure w ≤ fuel
-  pub meets : goal ≡ iterate fuel f w
-
-module _ {A : Type 0} where
-  -- The first turn first.
-  iterate-shift : (f : A → A) (x : A) (n : ℕ) → iterate (suc n) f x ≡ iterate n f (f x)
-  unfolding iterate
-  iterate-shift f x zero = refl
-  iterate-shift f x (suc n) = ap f (iterate-shift f x n)
-
-  pub reaches-start : (measure : A → ℕ) (f : A → A) (n : ℕ) (w : A) → measure w ≤ n → Reaches measure f (iterate n f w) w
-  reaches-start measure f n w h = record { fuel = n; enough = h; meets = refl }
-
-  pub reaches-turn :
-      (measure : A → ℕ) (f : A → A) (goal w : A) → (f w ≡ w) ⊎ (measure (f w) < measure w) → Reaches measure f goal w → Reaches measure f goal (f w)
-  reaches-turn measure f goal w (inl e) r = subst (Reaches measure f goal) (sym e) r
-  reaches-turn measure f goal w (inr l) r = step (r .fuel) (r .enough) (r .meets)
-    where
-      step : (n : ℕ) → measure w ≤ n → goal ≡ iterate n f w → Reaches measure f goal (f w)
-      step zero h e = absurd (omega arith)
-      step (suc n) h e = record { fuel = n; enough = omega arith; meets = e ∙ iterate-shift f w n }
-
-  pub reaches-done : (measure : A → ℕ) (f : A → A) (goal w : A) → f w ≡ w → Reaches measure f goal w → w ≡ goal
-  unfolding iterate
-  reaches-done measure f goal w e r =
-      sym (r .meets ∙ subst (λ (n : ℕ). iterate n f w ≡ w) (zero-plus (r .fuel)) (iterate-fixed f w zero e (r .fuel)))
-    where
-      zero-plus : (n : ℕ) → zero + n ≡ n
-      zero-plus n = omega arith
 
 -- ── Passes until one marks nothing ──
 
@@ -207,7 +165,8 @@ module _ {rules literals state : List ℕ} where
   founding-start marks = record { reaches = reaches-start _ _ _ _ (unmarked-le marks); settled = λ e. absurd (omega arith) }
 
   pub founding-turn :
-      {goal marks after : List ℕ} {marked more : ℕ} → Passed rules literals state marks after more → Founding rules literals state goal marks marked →
+      {goal marks after : List ℕ} {marked more : ℕ} → PassDone rules literals state marks after more →
+      Founding rules literals state goal marks marked →
       Founding rules literals state goal after more
   founding-turn {goal} {marks} {after} {marked} {more} p f =
       record {

@@ -1,6 +1,4 @@
--- `FoundedMarks` says whom the marks tell; `LargestGrows` serves it. `FoundingLaws` has the laws of the code's loops, and `InPlace` those of a loop
--- that gives each entry of a list its value.
+-- `FoundedMarks` says whom the marks tell, with `GrowingMarks` on how they grow; `FoundingLaws` has the laws of the code's loops.
 pub mod FoundedMarks
-pub mod LargestGrows
-pub mod InPlace
+pub mod GrowingMarks
 pub mod FoundingLaws

@@ -1,2 +1,2 @@
--- Founded atoms, as code marks them.
-pub mod Founding
+-- Founded atoms. All of it is internal: the exported calls promise what the theory says.
+pub mod internal

@@ -4,10 +4,11 @@ ghost use mathlib.Core.Bool.{not, cond, _||_};
 ghost use Prim.Native.Nat.{_+_, _≤_, _<_};
 ghost use lib.ListN.{length};
 ghost use Rattle.wellfounded.specs.Lists.{all};
-ghost use Rattle.wellfounded.specs.Literals.{atomOf, isTrue, valueAt, bodyAt, Scannable};
+ghost use Rattle.wellfounded.specs.Literals.{atomOf, isTrue, valueAt, bodyAt};
+ghost use Rattle.wellfounded.specs.internal.Scans.{Scannable};
 ghost use Rattle.tables.specs.Rows.{ruleCount};
-ghost use Rattle.tables.specs.Marks.{isMarked};
-ghost use Rattle.founding.specs.Founding.{founds, rowFounds, foundRow, unmarked, Passed, foundStart, foundAll, Markable};
+ghost use Rattle.tables.specs.internal.Marks.{isMarked};
+ghost use Rattle.founding.specs.internal.Founding.{founds, rowFounds, foundRow, unmarked, PassDone, foundStart, foundAll, Markable};
 use tables::rows::rule_count;
 use tables::rows::rule_head;
 use tables::rows::rule_size;
@@ -93,7 +94,7 @@ fn found_row(
 // One pass over the rules; answers how many atoms it marked.
 fn found_pass(rules: &[u16], literals: &[u16], values: &[u8], founded: &mut [u8]) -> usize
     requires { ⌜ Markable (now rules) (now literals) (now values) (now founded) ⌝ }
-    ensures { λ r. ⌜ Passed (now (rules .entry)) (now (literals .entry)) (now (values .entry)) (now (founded .entry)) (now (founded .exit)) r ⌝ }
+    ensures { λ r. ⌜ PassDone (now (rules .entry)) (now (literals .entry)) (now (values .entry)) (now (founded .entry)) (now (founded .exit)) r ⌝ }
 {
     let rows = rule_count(rules);
     let mut marked = 0;

@@ -2,19 +2,16 @@
 -- Assumes nothing.
 use Prim.Native.Nat.{ℕ, _<_}
 use mathlib.Core.Path.{_≡_, refl, sym, ap, _∙_}
-use mathlib.Core.Logic.{_↔_, _⊎_, ⊎-elim}
+use mathlib.Core.Logic.{_↔_}
 use mathlib.Core.Bool.{true, false, not, false≢true}
-use mathlib.Core.List.{List, [], _∷_, _++_, List·Memᴰ, List·Memᴰ·head, List·Memᴰ·tail}
-use borrow.Author.Tests.{eq-eqb, not-false, not-true}
+use mathlib.Core.List.{List, _++_, List·Memᴰ, List·Memᴰ·head, List·Memᴰ·tail}
+use borrow.Author.Tests.{not-false, not-true}
 use lib.Dec.{ltb}
-use lib.ListN.{length}
 use Rattle.wellfounded.specs.Lists.{all}
 use Rattle.wellfounded.specs.Literals.{isHeld, valueAt}
 use Rattle.wellfounded.specs.Stages.{wellFoundedModel, stagesOf}
-use Rattle.wellfounded.proofs.Tests.{clash, not-both, cond-true, cond-false}
-use Rattle.wellfounded.proofs.Lists.{length-tabulate}
-use Rattle.wellfounded.proofs.Definitions.{defined-or-open, defined-not-open}
-use Rattle.wellfounded.proofs.Closure.{model-length}
+use Rattle.wellfounded.proofs.Tests.{clash}
+use Rattle.wellfounded.proofs.Closure.{model-length, stages-length}
 use Rattle.wellfounded.proofs.Theorems.{complete}
 use Rattle.tables.specs.declared.Found.{Found}
 use Rattle.tables.specs.declared.Found.the-variants.{At, Nothing}
@@ -23,18 +20,19 @@ use Rattle.tables.specs.declared.Fault.the-variants.{Undecided}
 use Rattle.tables.specs.declared.Verdict.{Verdict}
 use Rattle.tables.specs.declared.Verdict.the-variants.{Accepted, Refused}
 use Rattle.tables.specs.Faults.{Test, Absent, firstFault, lowest, numberOf, faultNumber}
-use Rattle.tables.specs.Rows.{definitionOf}
 use Rattle.tables.specs.Sound.{Tables, bookOf, tableTests, sliceTest, Sound}
 use Rattle.satisfaction.specs.Satisfied.{clauseTest, loadTest, satisfactionTests}
 use Rattle.tables.proofs.Faults.{lowest-at, lowest-found, first-passes, first-fails, absent-none, absent-more, accepted-absent, absent-accepted, refused-among, first-append, first-append-refused}
-use Rattle.tables.proofs.SoundTables.{slices-absent, length-none, length-more}
+use Rattle.tables.proofs.RowLaws.{book-size}
+use Rattle.tables.proofs.SoundTables.{slices-absent, sized-none, sized-more}
 use Rattle.satisfaction.proofs.Satisfied.{absent-satisfies, satisfies-absent}
-use Rattle.checker.specs.Check.{checkOf}
+use Rattle.checker.specs.Check.{claimSlices, checkOf}
 use Rattle.checker.proofs.Theorems.{accepted-exactly}
-use Rattle.tables.specs.Marks.{notHeld}
-use Rattle.evaluator.specs.Evaluate.{badSetting, settingTest, undecidedTest, refusalTests, modelTests, modelFault, isMade, Evaluation, evaluated, stoppedOr, evaluateOf}
+use Rattle.tables.specs.Values.{notHeld}
+use Rattle.evaluator.specs.Evaluate.{undecidedTest, refusalTests, modelTests, modelFault, isMade, Evaluation, evaluated, stoppedOr, evaluateOf}
+use Rattle.evaluator.proofs.SettingFault.{setting-absent}
 use Rattle.evaluator.proofs.MadeLaws.{stopped-unmade, model-made}
-use Rattle.guarantees.specs.Settings.{LentSetting, stopTests, Good}
+use Rattle.guarantees.specs.Settings.{LentSetting, makerSlices, stopTests, Good}
 
 -- ── The model's faults ──
 
@@ -68,19 +66,13 @@ undecided-at t values p = (
 
 -- ── What the maker is lent ──
 
-module _ (t : Tables) (o : List ℕ) (lent : LentSetting (bookOf t) o) where
-  lent-fine : (a : ℕ) → a < t .atoms → badSetting (bookOf t) o a ≡ false
-  unfolding badSetting bookOf definitionOf
-  lent-fine a l =
-      ⊎-elim (λ h. ap not (cond-true _ _ h ∙ eq-eqb _ _ (lent .zeros a h)))
-      (λ h. ap not (cond-false _ _ (not-both _ (λ d. defined-not-open (bookOf t) a d h)) ∙ lent .setting .given a h))
-      (defined-or-open (bookOf t) a l)
-
-  pub lent-passes : (v l w : List ℕ) → Sound t (length o ∷ length v ∷ length l ∷ length w ∷ []) → firstFault (stopTests t o v l w) ≡ Accepted
-  unfolding stopTests refusalTests settingTest bookOf definitionOf
-  lent-passes v l w sound =
-      first-append (tableTests t) _ (absent-accepted (tableTests t) (sound .tables))
-      ∙ absent-accepted _ (absent-more (sound .slices) (absent-more (record { nowhere = lent-fine }) absent-none))
+pub lent-passes :
+    (t : Tables) (o v l w : List ℕ) → LentSetting (bookOf t) o → Sound t (makerSlices t o v l w) →
+    firstFault (stopTests t o v l w) ≡ Accepted
+unfolding stopTests refusalTests
+lent-passes t o v l w lent sound =
+    first-append (tableTests t) _ (absent-accepted (tableTests t) (sound .tables))
+    ∙ absent-accepted _ (absent-more (sound .slices) (absent-more (setting-absent (bookOf t) o (lent .setting) (lent .zeros)) absent-none))
 
 -- ── What the maker leaves ──
 
@@ -134,33 +126,32 @@ module _ (t : Tables) (o v l w : List ℕ) where
 
 module _ (t : Tables) (o : List ℕ) where
   pub accepted-good : firstFault (modelTests t (wellFoundedModel (bookOf t) o)) ≡ Accepted → Good t o
-  unfolding modelTests undecidedTest notHeld bookOf definitionOf
+  unfolding modelTests undecidedTest notHeld
   accepted-good e =
       let none = accepted-absent (modelTests t (wellFoundedModel (bookOf t) o)) e in
       record {
         twoValued = record {
           size = model-length (bookOf t) o;
-          held = λ a l. not-false _ (none _ (List·Memᴰ·head refl) .nowhere a l);
+          held = λ a l. not-false _ (none _ (List·Memᴰ·head refl) .nowhere a (rw book-size at l));
         };
         satisfied = absent-satisfies t _ (λ test m. none test (List·Memᴰ·tail m));
       }
 
   pub good-accepted : Good t o → firstFault (modelTests t (wellFoundedModel (bookOf t) o)) ≡ Accepted
-  unfolding modelTests undecidedTest notHeld bookOf definitionOf
+  unfolding modelTests undecidedTest notHeld
   good-accepted good =
       absent-accepted _
-      (absent-more (record { nowhere = λ a l. ap not (good .twoValued .held a l) }) (satisfies-absent t _ (good .satisfied)))
+      (absent-more (record { nowhere = λ a l. ap not (good .twoValued .held a (rw book-size l)) }) (satisfies-absent t _ (good .satisfied)))
 
   -- The check accepts a good model with its stages.
   pub good-checked :
       Good t o → ((test : Test) → List·Memᴰ test (tableTests t) → Absent test) →
       numberOf (checkOf t (wellFoundedModel (bookOf t) o) (stagesOf (bookOf t) o)) ≡ 0
-  unfolding stagesOf bookOf definitionOf
   good-checked good tables =
       accepted-exactly t (wellFoundedModel (bookOf t) o) (stagesOf (bookOf t) o) (record { tables = tables; slices = slices }) .1
       (record { twoValued = good .twoValued; obeys = complete (bookOf t) o (good .twoValued); satisfies = good .satisfied })
     where
-      slices : Absent (sliceTest (t .atoms) (length (wellFoundedModel (bookOf t) o) ∷ length (stagesOf (bookOf t) o) ∷ []))
+      slices : Absent (sliceTest (claimSlices t (wellFoundedModel (bookOf t) o) (stagesOf (bookOf t) o)))
       slices =
-          slices-absent (t .atoms) _
-          (length-more (λ n. n ≡ t .atoms) (model-length (bookOf t) o) (length-more (λ n. n ≡ t .atoms) (length-tabulate _ _) (length-none (λ n. n ≡ t .atoms))))
+          slices-absent _
+          (sized-more (model-length (bookOf t) o ∙ book-size t) (sized-more (stages-length (bookOf t) o ∙ book-size t) sized-none))

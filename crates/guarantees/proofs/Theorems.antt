@@ -1,27 +1,29 @@
 -- What the check and the maker promise: statements about `checkOf` and `evaluateOf`, the definitions that the contracts
 -- of `check` and of the maker cite, for every content. The longer proofs are in `Making`.
 -- Assumes nothing.
-use Prim.Native.Nat.{ℕ, _<_}
+use Prim.Native.Nat.{ℕ, _≤_, _<_}
 use mathlib.Core.Path.{_≡_, refl, sym, ap, _∙_}
 use mathlib.Core.Logic.{_↔_}
 use mathlib.Core.Bool.{true, false, false≢true}
-use mathlib.Core.List.{List, [], _∷_, _++_}
-use lib.ListN.{length}
+use mathlib.Core.List.{List, _++_}
 use Rattle.wellfounded.specs.Literals.{isHeld, valueAt}
-use Rattle.wellfounded.specs.Stages.{wellFoundedModel, SameSetting}
+use Rattle.wellfounded.specs.Stages.{wellFoundedModel, stageOf, Setting, SameSetting}
+use Rattle.wellfounded.specs.Levels.{levelAt}
+use Rattle.wellfounded.specs.Definitions.{Definition}
 use Rattle.wellfounded.proofs.Definitions.{open-below}
 use Rattle.tables.specs.declared.Fault.{Fault}
 use Rattle.tables.specs.declared.Fault.the-variants.{Undecided}
 use Rattle.tables.specs.declared.Verdict.{Verdict}
 use Rattle.tables.specs.declared.Verdict.the-variants.{Accepted, Refused}
-use Rattle.tables.specs.Faults.{firstFault, numberOf, positionOf, faultNumber, RefusedBy}
+use Rattle.tables.specs.Faults.{Absent, firstFault, numberOf, positionOf, faultNumber, RefusedBy}
 use Rattle.tables.specs.Sound.{Tables, bookOf, Sound}
 use Rattle.tables.proofs.Faults.{refused-by, by-refused}
 use Rattle.tables.proofs.Numbers.{zero-accepted, number-refused}
 use Rattle.checker.specs.Check.{checkOf}
 use Rattle.checker.proofs.Theorems
-use Rattle.evaluator.specs.Evaluate.{modelTests, modelFault, isMade, Evaluation, evaluated, evaluateOf, Answers}
-use Rattle.guarantees.specs.Settings.{Setting, LentSetting, stopTests, Good, Made, Unwritten, MadeAndChecked}
+use Rattle.evaluator.specs.Evaluate.{settingTest, modelTests, modelFault, isMade, Evaluation, evaluated, evaluateOf, Answers}
+use Rattle.evaluator.proofs.SettingFault.{setting-absent, absent-setting, absent-zeros}
+use Rattle.guarantees.specs.Settings.{LentSetting, makerSlices, stopTests, Good, Made, Unwritten, MadeAndChecked}
 use Rattle.guarantees.proofs.Making.{undecided-at, lent-passes, passed-made, refused-stopped, verdict-is, stopped-by, made-by}
 use Rattle.guarantees.proofs.Making.{accepted-good, good-accepted, good-checked}
 
@@ -30,7 +32,8 @@ use Rattle.guarantees.proofs.Making.{accepted-good, good-accepted, good
 module _ (t : Tables) (values levels : List ℕ) (accepted : numberOf (checkOf t values levels) ≡ 0) where
   -- An accepted claim has a setting: its open facts hold only 0 and 1.
   pub accepted-setting : Setting (bookOf t) values
-  accepted-setting = record { given = λ a h. Theorems.accepted-right t values levels accepted .twoValued .held a (open-below (bookOf t) a h) }
+  accepted-setting =
+      record { given = λ a h. Theorems.accepted-right t values levels accepted .twoValued .held a (open-below (bookOf t) a h) }
 
   -- For every setting that it has, its values are those of the well-founded model,
   pub accepted-model : (o : List ℕ) → SameSetting (bookOf t) o values → wellFoundedModel (bookOf t) o ≡ values
@@ -43,6 +46,10 @@ module _ (t : Tables) (values levels : List ℕ) (accepted : numberOf (checkOf t
         twoValued = Theorems.accepted-two-valued t values levels accepted o has;
         satisfied = Theorems.accepted-satisfied t values levels accepted o has;
       }
+
+  -- No level is below its atom's stage: no accepted claim decides an atom before its stage.
+  pub accepted-levels : (o : List ℕ) → SameSetting (bookOf t) o values → (atom : ℕ) → stageOf (bookOf t) o atom ≤ levelAt levels atom
+  accepted-levels = Theorems.accepted-levels t values levels accepted
 
 -- Two accepted claims on one book that agree on the open facts agree everywhere, whatever their levels.
 pub accepted-agree :
@@ -59,9 +66,9 @@ others-refused t o values levels bad has accepted = bad (accepted-is-good t valu
 
 -- ── The maker on sound tables, lent a setting o, whatever values v, levels l and work w hold on entry ──
 
-module _ (t : Tables) (o v l w : List ℕ) (sound : Sound t (length o ∷ length v ∷ length l ∷ length w ∷ [])) (lent : LentSetting (bookOf t) o) where
+module _ (t : Tables) (o v l w : List ℕ) (sound : Sound t (makerSlices t o v l w)) (lent : LentSetting (bookOf t) o) where
   is-evaluated : evaluateOf t o v l w ≡ evaluated t o
-  is-evaluated = passed-made t o v l w (lent-passes t o lent v l w sound)
+  is-evaluated = passed-made t o v l w (lent-passes t o v l w lent sound)
 
   -- Demand 2: it writes the well-founded model with its stages, sets work to 0, and answers the closure number,
   pub made : Made t o (evaluateOf t o v l w)
@@ -111,6 +118,13 @@ module _ (t : Tables) (o v l w : List ℕ) (sound : Sound t (length o ∷ length
       )
 
 -- ── Demand 2, of the maker on any content ──
+
+-- 21 does not stop the maker exactly if its open values hold a setting, and 0 at defined atoms.
+pub setting-exactly : (d : Definition) (o : List ℕ) → Absent (settingTest d o) ↔ LentSetting d o
+setting-exactly d o = (
+  λ none. record { setting = absent-setting d o none; zeros = absent-zeros d o none },
+  λ lent. setting-absent d o (lent .setting) (lent .zeros),
+)
 
 module _ (t : Tables) (o v l w : List ℕ) where
   -- Its number and spot: refused with a fault at a position exactly if that fault's test fails there, at no lower

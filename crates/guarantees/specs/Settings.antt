@@ -1,32 +1,32 @@
--- The words of demand 3 (the paper's section "The check and the maker"), and what the maker leaves.
+-- The words in which the meaning of an accepted claim is promised (demand 3 of the paper), and what the maker leaves.
 use Prim.Native.Nat.{ℕ}
 use mathlib.Core.Path.{_≡_}
 use mathlib.Core.Logic.{_↔_}
 use mathlib.Core.Bool.{true}
-use mathlib.Core.List.{List, [], _∷_}
+use mathlib.Core.List.{List}
 use lib.ListN.{length, replicate}
-use Rattle.wellfounded.specs.Literals.{isHeld, valueAt}
-use Rattle.wellfounded.specs.Definitions.{Definition, isDefined, isOpen}
-use Rattle.wellfounded.specs.Stages.{closure, wellFoundedModel, stagesOf, TwoValued}
+use Rattle.wellfounded.specs.Literals.{valueAt}
+use Rattle.wellfounded.specs.Definitions.{Definition, isDefined}
+use Rattle.wellfounded.specs.Stages.{closure, wellFoundedModel, stagesOf, TwoValued, Setting}
 use Rattle.tables.specs.declared.Verdict.{Verdict}
 use Rattle.tables.specs.Faults.{Test, numberOf}
-use Rattle.tables.specs.Sound.{Tables, bookOf, Sound}
+use Rattle.tables.specs.Sound.{Tables, bookOf, Slice, Sound}
 use Rattle.satisfaction.specs.Satisfied.{Satisfies}
-use Rattle.evaluator.specs.Evaluate.{refusalTests, Evaluation, evaluateOf, Answers}
+use Rattle.evaluator.specs.Evaluate.{evaluationSlices, refusalTests, Evaluation, evaluateOf, Answers}
 use Rattle.checker.specs.Check.{checkOf}
-
--- A setting gives each open atom 0 or 1. (A claim has the setting o if `SameSetting d o values`: its open atoms hold it.)
-pub record Setting (d : Definition) (o : List ℕ) : Type 0 where
-  pub given : (atom : ℕ) → isOpen d atom ≡ true → isHeld (valueAt o atom) ≡ true
 
 -- The open values that the maker is lent hold the setting, and 0 at defined atoms.
 pub record LentSetting (d : Definition) (o : List ℕ) : Type 0 where
   pub setting : Setting d o
   pub zeros : (atom : ℕ) → isDefined d atom ≡ true → valueAt o atom ≡ 0
 
+-- The open values o, values v, levels l and work w, with the lengths that they must have.
+abbrev pub makerSlices : Tables → List ℕ → List ℕ → List ℕ → List ℕ → List Slice
+makerSlices t o v l w = evaluationSlices (t .atoms) (length o) (length v) (length l) (length w)
+
 -- The faults 11 to 17 and 21, which stop the maker, of the tables, the open values o, and values v, levels l and work w.
 unfoldable pub stopTests : Tables → List ℕ → List ℕ → List ℕ → List ℕ → List Test
-stopTests t o v l w = refusalTests t o (length o ∷ length v ∷ length l ∷ length w ∷ [])
+stopTests t o v l w = refusalTests t o (makerSlices t o v l w)
 
 -- The well-founded model for the setting is two-valued and satisfies all clauses and load lines.
 pub record Good (t : Tables) (o : List ℕ) : Type 0 where
@@ -49,8 +49,9 @@ pub record Unwritten (v l w : List ℕ) (e : Evaluation) : Type 0 where
 
 -- The two calls in turn: the maker answers and leaves the slices as `evaluateOf` says, the check answers as `checkOf` says of
 -- what it finds there, and on sound tables with a setting each accepts exactly if the model is good.
-pub record MadeAndChecked (t : Tables) (o v l w : List ℕ) (made : Verdict) (rounds : ℕ) (checked : Verdict) (values levels work : List ℕ) : Type 0 where
+pub record MadeAndChecked
+    (t : Tables) (o v l w : List ℕ) (made : Verdict) (rounds : ℕ) (checked : Verdict) (values levels work : List ℕ) : Type 0 where
   pub evaluation : Answers (evaluateOf t o v l w) made rounds values levels work
   pub check : checked ≡ checkOf t values levels
-  pub makesExactly : Sound t (length o ∷ length v ∷ length l ∷ length w ∷ []) → LentSetting (bookOf t) o → (numberOf made ≡ 0) ↔ Good t o
-  pub acceptsExactly : Sound t (length o ∷ length v ∷ length l ∷ length w ∷ []) → LentSetting (bookOf t) o → (numberOf checked ≡ 0) ↔ Good t o
+  pub makesExactly : Sound t (makerSlices t o v l w) → LentSetting (bookOf t) o → (numberOf made ≡ 0) ↔ Good t o
+  pub acceptsExactly : Sound t (makerSlices t o v l w) → LentSetting (bookOf t) o → (numberOf checked ≡ 0) ↔ Good t o

@@ -20,8 +20,9 @@ use Rattle.items.specs.declared.pairs.Pair.the-variants.{Paired, NoPair}
 use Rattle.format.specs.Forms.{LiteralText, opening, space, closing, notWord}
 use Rattle.format.specs.Parse.{got, andThen, readNumber, readSigned, readNegated, readLiteral, readTerm, readPair}
 use Rattle.format.specs.Words.{startsWith, wordAt}
-use Rattle.numerals.specs.Offsets.{capped, clamped, numberAt, signedAt}
-use Rattle.items.specs.Items.{codeOf, cappedCode, answeredLiteral, negatedAt, literalAt, answeredTerm, termAt, answeredPair, pairAt}
+use Rattle.numerals.specs.internal.Offsets.{capped, clamped, numberAt, signedAt}
+use Rattle.items.specs.Items.{codeOf}
+use Rattle.items.specs.internal.Places.{cappedCode, answeredLiteral, negatedAt, literalAt, answeredTerm, termReadAt, answeredPair, pairAt}
 use Rattle.numerals.proofs.CappedLaws.{clamped-fits}
 use Rattle.numerals.proofs.OffsetLaws.{number-beyond}
 use Rattle.items.proofs.ItemLaws.{GotAt, number-got, number-none-read, signed-got, signed-none, literal-got, literal-none}
@@ -101,26 +102,26 @@ signed-fits text at l e = let g = signed-got l e in subst (λ (z : ℤ). SFits w
 
 -- A term `(M L)`.
 module _ (text : List ℕ) (at : ℕ) where
-  pub term-unopened : wordAt text at (opening ∷ []) ≡ false → termAt text at ≡ NoTerm
-  unfolding termAt answeredTerm readTerm andThen
+  pub term-unopened : wordAt text at (opening ∷ []) ≡ false → termReadAt text at ≡ NoTerm
+  unfolding termReadAt answeredTerm readTerm andThen
   term-unopened f = rw (byte-none text at opening f)
 
   module _ (opened : wordAt text at (opening ∷ []) ≡ true) where
-    pub term-weightless : signedAt text (at + 1) ≡ Malformed → termAt text at ≡ NoTerm
-    unfolding termAt answeredTerm readTerm andThen
+    pub term-weightless : signedAt text (at + 1) ≡ Malformed → termReadAt text at ≡ NoTerm
+    unfolding termReadAt answeredTerm readTerm andThen
     term-weightless e = rw (byte-got text at opening opened .0, signed-none text (at + 1) e)
 
     module _ {minutes : ℤ} {after : ℕ} (weighed : signedAt text (at + 1) ≡ Whole minutes after) where
       weighed-got : (z : ℤ) × (minutes ≡ clamped z) × GotAt readSigned text (at + 1) after z
       weighed-got = signed-got (omega (arith, byte-got text at opening opened .1)) weighed
 
-      pub term-unspaced : wordAt text after (space ∷ []) ≡ false → termAt text at ≡ NoTerm
-      unfolding termAt answeredTerm readTerm andThen
+      pub term-unspaced : wordAt text after (space ∷ []) ≡ false → termReadAt text at ≡ NoTerm
+      unfolding termReadAt answeredTerm readTerm andThen
       term-unspaced f = rw (byte-got text at opening opened .0, weighed-got .2 .reads, byte-none text after space f)
 
       module _ (spaced : wordAt text after (space ∷ []) ≡ true) where
-        pub term-literalless : literalAt text (after + 1) ≡ NoLiteral → termAt text at ≡ NoTerm
-        unfolding termAt answeredTerm readTerm andThen
+        pub term-literalless : literalAt text (after + 1) ≡ NoLiteral → termReadAt text at ≡ NoTerm
+        unfolding termReadAt answeredTerm readTerm andThen
         term-literalless e =
             rw (byte-got text at opening opened .0, weighed-got .2 .reads, byte-got text after space spaced .0, literal-none text (after + 1) e)
 
@@ -128,13 +129,13 @@ module _ (text : List ℕ) (at : ℕ) where
           coded-got : (l : LiteralText) × (code ≡ cappedCode l) × GotAt readLiteral text (after + 1) next l
           coded-got = literal-got (omega (arith, byte-got text after space spaced .1)) coded
 
-          pub term-unclosed : wordAt text next (closing ∷ []) ≡ false → termAt text at ≡ NoTerm
-          unfolding termAt answeredTerm readTerm andThen
+          pub term-unclosed : wordAt text next (closing ∷ []) ≡ false → termReadAt text at ≡ NoTerm
+          unfolding termReadAt answeredTerm readTerm andThen
           term-unclosed f =
               rw (byte-got text at opening opened .0, weighed-got .2 .reads, byte-got text after space spaced .0, coded-got .2 .reads, byte-none text next closing f)
 
-          pub term-closed : wordAt text next (closing ∷ []) ≡ true → termAt text at ≡ Weighed minutes code (next + 1)
-          unfolding termAt answeredTerm readTerm andThen
+          pub term-closed : wordAt text next (closing ∷ []) ≡ true → termReadAt text at ≡ Weighed minutes code (next + 1)
+          unfolding termReadAt answeredTerm readTerm andThen
           term-closed t =
               let l = byte-got text next closing t in
               rw (

@@ -19,8 +19,8 @@ use Rattle.items.specs.declared.pairs.Pair.the-variants.{Paired, NoPair}
 use Rattle.format.specs.Forms.{LiteralText, TermText, PairText, decimal, signed, literalBytes, termBytes, pairBytes}
 use Rattle.format.specs.Parse.{Reading, got, refused, skip, readNumber, readSigned, readLiteral, readTerm, readPair}
 use Rattle.format.specs.Words.{wordAt}
-use Rattle.numerals.specs.Offsets.{capped, clamped, answered, numberAt, answeredSigned, signedAt}
-use Rattle.items.specs.Items.{cappedCode, answeredLiteral, literalAt, answeredTerm, termAt, answeredPair, pairAt}
+use Rattle.numerals.specs.internal.Offsets.{capped, clamped, answered, numberAt, answeredSigned, signedAt}
+use Rattle.items.specs.internal.Places.{cappedCode, answeredLiteral, literalAt, answeredTerm, termReadAt, answeredPair, pairAt}
 use Rattle.format.proofs.Readings.{holds-use}
 use Rattle.format.proofs.WordLaws.{skipped, not-skipped, word-short}
 use Rattle.format.proofs.Pieces.{Inverse, number-inverse, signed-inverse, literal-inverse, term-inverse, pair-inverse}
@@ -44,7 +44,8 @@ module _ {A : Type 0} (bytes : A → List ℕ) (reader : List ℕ → Reading A)
       record { reads = rw left e; on = omega arith; inside = omega arith }
 
   got-next :
-      {text rest : List ℕ} {at next : ℕ} {x : A} → at ≤ length text → reader (drop at text) ≡ got x rest → next ≡ length text - length rest →
+      {text rest : List ℕ} {at next : ℕ} {x : A} → at ≤ length text → reader (drop at text) ≡ got x rest →
+      next ≡ length text - length rest →
       GotAt reader text at next x
   got-next l e n = rw n (got-at l e)
 
@@ -64,14 +65,14 @@ number-got {text} {at} l e =
     let a = number-answer text (readNumber (drop at text)) e in
     (a .0, a .3, got-next decimal readNumber number-inverse l (a .2) (a .4))
 
-number-refused : (text : List ℕ) (r : Reading ℕ) → answered text r ≡ Refused → r ≡ refused
+number-missing : (text : List ℕ) (r : Reading ℕ) → answered text r ≡ Refused → r ≡ refused
 unfolding answered
-number-refused text (got n rest) e = let z : _≡_ {A = ℕ} 0 1 = cc in absurd (omega arith)
-number-refused text refused e = refl
+number-missing text (got n rest) e = let z : _≡_ {A = ℕ} 0 1 = cc in absurd (omega arith)
+number-missing text refused e = refl
 
 pub number-none-read : (text : List ℕ) (at : ℕ) → numberAt text at ≡ Refused → readNumber (drop at text) ≡ refused
 unfolding numberAt
-number-none-read text at e = number-refused text (readNumber (drop at text)) e
+number-none-read text at e = number-missing text (readNumber (drop at text)) e
 
 -- Signed numbers.
 signed-answer :
@@ -133,9 +134,9 @@ term-answer text (got t rest) e = (t, rest, refl, (cc), (cc), (cc))
 term-answer text refused e = let z : _≡_ {A = ℕ} 0 1 = cc in absurd (omega arith)
 
 pub term-got :
-    {text : List ℕ} {at code next : ℕ} {minutes : ℤ} → at ≤ length text → termAt text at ≡ Weighed minutes code next →
+    {text : List ℕ} {at code next : ℕ} {minutes : ℤ} → at ≤ length text → termReadAt text at ≡ Weighed minutes code next →
     (t : TermText) × (minutes ≡ clamped (t .minutes)) × (code ≡ cappedCode (t .literal)) × GotAt readTerm text at next t
-unfolding termAt
+unfolding termReadAt
 term-got {text} {at} l e =
     let a = term-answer text (readTerm (drop at text)) e in
     (a .0, a .3, a .4, got-next termBytes readTerm term-inverse l (a .2) (a .5))
@@ -145,8 +146,8 @@ unfolding answeredTerm
 term-refused text (got t rest) e = let z : _≡_ {A = ℕ} 0 1 = cc in absurd (omega arith)
 term-refused text refused e = refl
 
-pub term-none : (text : List ℕ) (at : ℕ) → termAt text at ≡ NoTerm → readTerm (drop at text) ≡ refused
-unfolding termAt
+pub term-none : (text : List ℕ) (at : ℕ) → termReadAt text at ≡ NoTerm → readTerm (drop at text) ≡ refused
+unfolding termReadAt
 term-none text at e = term-refused text (readTerm (drop at text)) e
 
 -- Pairs.

@@ -4,7 +4,7 @@ use format::words::word_at;
 use numerals::numbers::Number;
 use numerals::numbers::read_number;
 ghost use mathlib.Core.Path.{_≡_};
-ghost use Rattle.items.specs.Items.{negatedAt, literalAt};
+ghost use Rattle.items.specs.internal.Places.{negatedAt, literalAt};
 
 // A literal's code, twice its atom and one more if it is negated, with the offset after it; or none.
 pub enum Literal {

@@ -3,7 +3,7 @@ use format::words::byte_at;
 use numerals::numbers::Number;
 use numerals::numbers::read_number;
 ghost use mathlib.Core.Path.{_≡_};
-ghost use Rattle.items.specs.Items.{pairAt};
+ghost use Rattle.items.specs.internal.Places.{pairAt};
 
 // The value and the level of a claim pair, with the offset after it; or none.
 pub enum Pair {

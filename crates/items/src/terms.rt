@@ -5,7 +5,7 @@ use format::words::byte_at;
 use numerals::signed::Signed;
 use numerals::signed::read_signed;
 ghost use mathlib.Core.Path.{_≡_};
-ghost use Rattle.items.specs.Items.{termAt};
+ghost use Rattle.items.specs.internal.Places.{termReadAt};
 
 // The minutes and the literal's code of a term, with the offset after it; or none.
 pub enum Term {
@@ -15,7 +15,7 @@ pub enum Term {
 
 // The term `(M L)` at an offset.
 pub fn read_term(text: &[u8], at: usize) -> Term
-    ensures { λ r. ⌜ r ≡ termAt (now (text .entry)) at ⌝ }
+    ensures { λ r. ⌜ r ≡ termReadAt (now (text .entry)) at ⌝ }
 {
     if !byte_at(text, at, b'(') {
         return Term::NoTerm;

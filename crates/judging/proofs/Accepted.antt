@@ -10,18 +10,24 @@ use lib.ListN.{length}
 use borrow.Author.Tests.{eqb-true, ne-eqb, leb-true, le-leb}
 use Rattle.wellfounded.specs.Lists.{all}
 use Rattle.wellfounded.proofs.Tests.{both, first, second}
+use Rattle.tables.specs.Limits.{maxAtoms}
 use Rattle.tables.specs.declared.Fault.the-variants.{OutsideLimits}
-use Rattle.format.specs.Forms.{Form, atomsForm, ruleForm, clauseForm, loadForm, openForm, claimForm, renderAll}
+use Rattle.format.specs.declared.kinds.Kind.the-variants.{Atoms, Claim}
+use Rattle.format.specs.Forms.{Form, renderAll}
+use Rattle.format.specs.Views.{kindIn, kindNumber, sameKind, ofKind}
+use Rattle.format.proofs.ViewLaws.{same-kind, lists-by-kind}
 use Rattle.judging.specs.declared.reached.Reached.{Reached}
 use Rattle.judging.specs.declared.reached.Space.{Space}
 use Rattle.judging.specs.declared.reached.Judged.{Judged}
 use Rattle.judging.specs.declared.reached.Judged.the-variants.{Passed, Failed}
-use Rattle.judging.specs.States.{openStood, start, added, kindIn, after, countsWithin, fits}
+use Rattle.judging.specs.States.{nothingYet, inRules, openStood, start, advanced, after, countsWithin, fits}
 use Rattle.judging.specs.Judging.{atomBound, numbersWithin, withinLimits, mayFollow, partsInOrder, inOrder, lines, judgeLines, judgeText, maxBytes, formsFrom, formsOf}
 use Rattle.judging.specs.Books.{afterAll, IsBook, BookText, passes, allPass, PassesUpTo}
-use Rattle.judging.proofs.Walking.{judge-passed, forms-all, Outcome, accepted, refusedAt, walked}
-use Rattle.judging.proofs.Sequences.{follows, between-use, may-phase, follows-sequence, sequence-follows}
-use Rattle.judging.proofs.Counts.{counts-before, held-fits, Blank, blank-start, blank-after, fits-before}
+use Rattle.judging.proofs.Walking.{judge-passed, forms-all, WalkEnd, accepted, refusedAt, walked}
+use Rattle.judging.proofs.Sequences.{follows, may-follow, follows-here, follows-later, phase-on, follows-sequence, sequence-follows}
+use Rattle.judging.proofs.StateLaws.{after-size}
+use Rattle.judging.proofs.Counts.{counts-before, each-fits, fits-before}
+use Rattle.judging.proofs.TableLaws.{start-count}
 
 -- What it is for a form to pass, part by part.
 pub record Passing (space : Space) (s : Reached) (f : Form) : Type 0 where
@@ -51,60 +57,42 @@ module _ (space : Space) (s : Reached) (f : Form) where
   passing-passes p = simp (p .numbers, p .counts, p .follows, p .ordered, p .held)
 
 -- Once an atoms form stood, the number of atoms stays.
-module _ (s : Reached) where
-  phase-after : (f : Form) → 1 ≤ after s f .phase
-  unfolding after added kindIn
-  phase-after (atomsForm n) = omega arith
-  phase-after (ruleForm g ls) = omega arith
-  phase-after (clauseForm ls) = omega arith
-  phase-after (loadForm lo hi ts) = omega arith
-  phase-after (openForm atoms) = omega arith
-  phase-after (claimForm ps) = omega arith
+size-after : (s : Reached) (f : Form) (fs : List Form) → inRules ≤ s .phase → follows s (f ∷ fs) ≡ true → s .size ≡ after s f .size
+unfolding after advanced
+size-after s f fs l h = rw (follows-here s f fs h .noAtoms l)
 
-  size-after : (f : Form) → 1 ≤ s .phase → mayFollow (kindIn f) (s .phase) ≡ true → after s f .size ≡ s .size
-  unfolding after added kindIn mayFollow
-  size-after (atomsForm n) l h = absurd (omega (arith, eqb-true (s .phase) 0 h))
-  size-after (ruleForm g ls) l h = refl
-  size-after (clauseForm ls) l h = refl
-  size-after (loadForm lo hi ts) l h = refl
-  size-after (openForm atoms) l h = refl
-  size-after (claimForm ps) l h = refl
-
-size-kept : (s : Reached) (fs : List Form) → 1 ≤ s .phase → follows s fs ≡ true → s .size ≡ afterAll s fs .size
-unfolding afterAll follows
+size-kept : (s : Reached) (fs : List Form) → inRules ≤ s .phase → follows s fs ≡ true → s .size ≡ afterAll s fs .size
+unfolding afterAll
 size-kept s [] l h = refl
-size-kept s (f ∷ fs) l h =
-    sym (size-after s f l (first (mayFollow (kindIn f) (s .phase)) _ h))
-    ∙ size-kept (after s f) fs (phase-after s f) (second (mayFollow (kindIn f) (s .phase)) _ h)
+size-kept s (f ∷ fs) l h = size-after s f fs l h ∙ size-kept (after s f) fs (phase-on s f fs h) (follows-later s f fs h)
 
 follows-end : (s : Reached) (fs : List Form) → follows s fs ≡ true → openStood ≤ afterAll s fs .phase
 unfolding afterAll follows
 follows-end s [] h = leb-true _ _ h
-follows-end s (f ∷ fs) h = follows-end (after s f) fs (second (mayFollow (kindIn f) (s .phase)) _ h)
+follows-end s (f ∷ fs) h = follows-end (after s f) fs (follows-later s f fs h)
 
 -- A form that may follow is tested alike in two states that agree on the number of atoms.
-module _ (s t : Reached) (agree : 1 ≤ s .phase → s .size ≡ t .size) (stood : 1 ≤ t .phase) where
-  bound-same : 1 ≤ s .phase → atomBound s ≡ atomBound t
+module _ (s t : Reached) (agree : inRules ≤ s .phase → s .size ≡ t .size) (stood : inRules ≤ t .phase) where
+  bound-same : inRules ≤ s .phase → atomBound s ≡ atomBound t
   unfolding atomBound
-  bound-same l = rw (ne-eqb (s .phase) 0 (λ e. omega arith), ne-eqb (t .phase) 0 (λ e. omega arith)) (agree l)
+  bound-same l = rw (ne-eqb (s .phase) nothingYet (λ e. omega arith), ne-eqb (t .phase) nothingYet (λ e. omega arith)) (agree l)
 
+  -- An atoms form names no open atoms; before every other form that may follow one stood.
   numbers-same : (f : Form) → mayFollow (kindIn f) (s .phase) ≡ true → numbersWithin s f ≡ numbersWithin t f
-  unfolding mayFollow kindIn numbersWithin
-  numbers-same (atomsForm n) h = refl
-  numbers-same (ruleForm g ls) h = refl
-  numbers-same (clauseForm ls) h = refl
-  numbers-same (loadForm lo hi ts) h = refl
-  numbers-same (openForm atoms) h = ap (λ (n : ℕ). all (λ atom. ltb atom n) atoms) (bound-same (between-use 1 3 (s .phase) h .0))
-  numbers-same (claimForm ps) h = refl
+  unfolding numbersWithin all sameKind kindNumber
+  numbers-same f h = step (sameKind (kindIn f) Atoms) refl
+    where
+      step : (b : Bool) → sameKind (kindIn f) Atoms ≡ b → numbersWithin s f ≡ numbersWithin t f
+      step true e = rw (lists-by-kind f .noAtoms (rw (same-kind (kindIn f) Atoms e)))
+      step false e = rw (bound-same (may-follow (kindIn f) (s .phase) h .later e))
 
   parts-same : (f : Form) → mayFollow (kindIn f) (s .phase) ≡ true → partsInOrder s f ≡ partsInOrder t f
-  unfolding mayFollow kindIn partsInOrder
-  parts-same (atomsForm n) h = refl
-  parts-same (ruleForm g ls) h = refl
-  parts-same (clauseForm ls) h = refl
-  parts-same (loadForm lo hi ts) h = refl
-  parts-same (openForm atoms) h = refl
-  parts-same (claimForm ps) h = ap (λ (n : ℕ). eqb (length ps) n) (agree (between-use 1 3 (s .phase) h .0))
+  unfolding partsInOrder ofKind sameKind kindNumber
+  parts-same f h = step (sameKind (kindIn f) Claim) refl
+    where
+      step : (b : Bool) → sameKind (kindIn f) Claim ≡ b → partsInOrder s f ≡ partsInOrder t f
+      step true e = rw (agree (may-follow (kindIn f) (s .phase) h .later (rw (same-kind (kindIn f) Claim e))))
+      step false e = rw e
 
 -- The tests of numbers and of parts, in the state at the end.
 pub record Tested (s : Reached) (fs : List Form) : Type 0 where
@@ -136,25 +124,24 @@ module _ (space : Space) where
   passed-tested s (f ∷ fs) g h =
       let here = passing space s f (first (passes space s f) _ h) in
       let later = passed-tested (after s f) fs (second (mayFollow (kindIn f) (s .phase)) _ g) (second (passes space s f) _ h) in
-      let end : 1 ≤ afterAll (after s f) fs .phase = omega (arith, follows-end s (f ∷ fs) g) in
-      let agree : 1 ≤ s .phase → s .size ≡ afterAll (after s f) fs .size = (λ l. size-kept s (f ∷ fs) l g) in
+      let end : inRules ≤ afterAll (after s f) fs .phase = omega (arith, follows-end s (f ∷ fs) g) in
+      let agree : inRules ≤ s .phase → s .size ≡ afterAll (after s f) fs .size = (λ l. size-kept s (f ∷ fs) l g) in
       record {
         numbers = both _ _ (sym (numbers-same s _ agree end f (here .follows)) ∙ here .numbers) (later .numbers);
         ordered = both _ _ (sym (parts-same s _ agree end f (here .follows)) ∙ here .ordered) (later .ordered);
       }
 
   book-passes :
-      (s : Reached) (fs : List Form) → follows s fs ≡ true → Tested s fs → Blank s → countsWithin (afterAll s fs) ≡ true →
+      (s : Reached) (fs : List Form) → follows s fs ≡ true → Tested s fs → countsWithin (afterAll s fs) ≡ true →
       fits space (afterAll s fs) ≡ true → allPass space s fs ≡ true
   unfolding allPass afterAll follows all
-  book-passes s [] g t b c k = refl
-  book-passes s (f ∷ fs) g t b c k =
+  book-passes s [] g t c k = refl
+  book-passes s (f ∷ fs) g t c k =
       let end = afterAll (after s f) fs in
       let may = first (mayFollow (kindIn f) (s .phase)) _ g in
       let onwards = second (mayFollow (kindIn f) (s .phase)) _ g in
-      let stood : 1 ≤ end .phase = omega (arith, follows-end s (f ∷ fs) g) in
-      let agree : 1 ≤ s .phase → s .size ≡ afterAll (after s f) fs .size = (λ l. size-kept s (f ∷ fs) l g) in
-      let blank = blank-after s f (may-phase f (s .phase) may) b in
+      let stood : inRules ≤ end .phase = omega (arith, follows-end s (f ∷ fs) g) in
+      let agree : inRules ≤ s .phase → s .size ≡ afterAll (after s f) fs .size = (λ l. size-kept s (f ∷ fs) l g) in
       let rest : Tested (after s f) fs = record { numbers = second (numbersWithin end f) _ (t .numbers); ordered = second (partsInOrder end f) _ (t .ordered) } in
       both (passes space s f) _
       (passing-passes space s f (record {
@@ -162,9 +149,9 @@ module _ (space : Space) where
         counts = counts-before (after s f) fs c;
         follows = may;
         ordered = parts-same s end agree stood f may ∙ first (partsInOrder end f) _ (t .ordered);
-        held = fits-before space (after s f) fs blank onwards k;
+        held = fits-before space (after s f) fs onwards k;
       }))
-      (book-passes (after s f) fs onwards rest blank c k)
+      (book-passes (after s f) fs onwards rest c k)
 
 -- Before the first line everything is within its limits and held.
 start-within : countsWithin start ≡ true
@@ -172,18 +159,19 @@ unfolding countsWithin start
 start-within = refl
 
 start-held : (space : Space) → fits space start ≡ true
+start-held space = each-fits space start λ table. omega (arith, start-count table)
+
+-- The number of atoms never exceeds the most that a book has.
+size-within :
+    (space : Space) (s : Reached) (fs : List Form) → s .size ≤ maxAtoms → allPass space s fs ≡ true → afterAll s fs .size ≤ maxAtoms
+unfolding allPass passes afterAll
+size-within space s [] l h = l
+size-within space s (f ∷ fs) l h =
+    size-within space (after s f) fs (after-size s f l (first (withinLimits s f) _ (first (passes space s f) _ h))) (second (passes space s f) _ h)
+
+pub passed-size : (space : Space) (fs : List Form) → PassesUpTo space fs → afterAll start fs .size ≤ maxAtoms
 unfolding start
-start-held space =
-    held-fits space start (record {
-      rules = omega arith;
-      literals = omega arith;
-      clauses = omega arith;
-      loads = omega arith;
-      loadLiterals = omega arith;
-      minutes = omega arith;
-      values = omega arith;
-      levels = omega arith;
-    })
+passed-size space fs p = size-within space _ fs (omega arith) (p .passed)
 
 -- Forms pass in turn up to a state form exactly if they are a book.
 module _ (space : Space) (fs : List Form) where
@@ -203,17 +191,18 @@ module _ (space : Space) (fs : List Form) where
   book-passed b =
       let g = sequence-follows fs (b .sequence) in
       let t : Tested start fs = record { numbers = b .numbers; ordered = b .ordered } in
-      (record { passed = book-passes space start fs g t blank-start (b .counts) (b .held) }, follows-end start fs g)
+      (record { passed = book-passes space start fs g t (b .counts) (b .held) }, follows-end start fs g)
 
 -- The accepted texts are the renderings of books.
 module _ (space : Space) (text : List ℕ) where
   pub accepted-book :
-      (t : Reached) → judgeText space text ≡ Passed t → (fs : List Form) × BookText space text fs × (t ≡ afterAll start fs) × (formsOf text ≡ fs)
+      (t : Reached) → judgeText space text ≡ Passed t →
+      (fs : List Form) × BookText space text fs × (t ≡ afterAll start fs) × (formsOf text ≡ fs)
   unfolding judgeText formsOf
   accepted-book t e = step (leb (length text) maxBytes) refl e
     where
       found :
-          length text ≤ maxBytes → (j : Judged) → Outcome space text j → j ≡ Passed t →
+          length text ≤ maxBytes → (j : Judged) → WalkEnd space text j → j ≡ Passed t →
           (fs : List Form) × BookText space text fs × (t ≡ afterAll start fs) × (formsFrom start (lines text) ≡ fs)
       found short j (accepted fs p whole l same) h =
           (fs, record { rendered = whole; short = short; book = passed-book space fs p l }, cc, rw whole (forms-all start fs))
@@ -231,3 +220,9 @@ module _ (space : Space) (text : List ℕ) where
       let k = book-passed space fs (b .book) in
       let whole : text ≡ renderAll fs ++ [] = b .rendered ∙ sym (append-nil (renderAll fs)) in
       rw (le-leb (length text) maxBytes (b .short), whole) (judge-passed space start 0 fs [] (k .0 .passed) ∙ rw (le-leb openStood _ (k .1)))
+
+  -- N is at most 1,024.
+  pub accepted-size : (t : Reached) → judgeText space text ≡ Passed t → t .size ≤ maxAtoms
+  accepted-size t e =
+      let k = accepted-book t e in
+      rw (k .2) (passed-size space (k .0) (book-passed space (k .0) (k .1 .book) .0))

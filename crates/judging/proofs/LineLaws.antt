@@ -15,7 +15,7 @@ use Rattle.format.specs.Forms.{Form, lineEnd, render}
 use Rattle.format.specs.Parse.{Reading, got, refused, parse, readLine}
 use Rattle.format.proofs.Readings.{holds-use}
 use Rattle.format.proofs.Lines.{render-parse, parse-render, line-reads, line-written}
-use Rattle.format.proofs.Texts.{within, Inside, render-inside}
+use Rattle.format.proofs.Texts.{endsNone, OneLine, render-line}
 use Rattle.judging.specs.declared.reached.Reached.{Reached}
 use Rattle.judging.specs.declared.reached.Space.{Space}
 use Rattle.judging.specs.declared.reached.Judged.the-variants.{Failed}
@@ -23,14 +23,15 @@ use Rattle.judging.specs.States.{after}
 use Rattle.judging.specs.Judging.{LineText, prepend, lines, formIn, judgeForm, judgeReading, judgeLine, continued, judgeLines, consRead, formsFrom}
 
 -- Bytes that end no line are a line with the byte after them that does.
-pub lines-inside : (bytes rest : List ℕ) → Inside bytes → lines (bytes ++ (lineEnd ∷ rest)) ≡ record { bytes = bytes; ended = true } ∷ lines rest
+pub lines-inside :
+    (bytes rest : List ℕ) → OneLine bytes → lines (bytes ++ (lineEnd ∷ rest)) ≡ record { bytes = bytes; ended = true } ∷ lines rest
 unfolding lines prepend all
 lines-inside [] rest h = refl
 lines-inside (b ∷ bytes) rest h =
-    rw (not-true (eqb b lineEnd) (first (within b) _ h), lines-inside bytes rest (second (within b) _ h))
+    rw (not-true (eqb b lineEnd) (first (endsNone b) _ h), lines-inside bytes rest (second (endsNone b) _ h))
 
 pub lines-line : (f : Form) (rest : List ℕ) → lines (render f ++ (lineEnd ∷ rest)) ≡ record { bytes = render f; ended = true } ∷ lines rest
-lines-line f rest = lines-inside (render f) rest (render-inside f)
+lines-line f rest = lines-inside (render f) rest (render-line f)
 
 pub form-line : (s : Reached) (f : Form) → formIn s (record { bytes = render f; ended = true }) ≡ got f []
 unfolding formIn
@@ -63,7 +64,9 @@ lines-front (b ∷ bytes) = step (eqb b lineEnd) refl (front-prepend b bytes (li
 
 -- Where nothing is read at the front, the first line is no form.
 module _ (s : Reached) (bytes : List ℕ) (none : readLine bytes ≡ refused) where
-  not-parsed : (line : LineText) (rest : List ℕ) (r : Reading Form) → bytes ≡ line .bytes ++ (lineEnd ∷ rest) → parse (line .bytes) ≡ r → r ≡ refused
+  not-parsed :
+      (line : LineText) (rest : List ℕ) (r : Reading Form) → bytes ≡ line .bytes ++ (lineEnd ∷ rest) → parse (line .bytes) ≡ r →
+      r ≡ refused
   not-parsed line rest (got f end) e p =
       let whole : bytes ≡ render f ++ (lineEnd ∷ rest) = rw (render-parse (line .bytes) f end p .0) e in
       let z : _≡_ {A = ℕ} 0 1 = cc (line-reads f rest) in
@@ -76,9 +79,9 @@ module _ (s : Reached) (bytes : List ℕ) (none : readLine bytes ≡ refused) wh
   not-form line more true e front = let k = front e in not-parsed line (k .0) (parse (line .bytes)) (k .1) refl
   not-form line more false e front = refl
 
-  first-refused : (line : LineText) (more : List LineText) → lines bytes ≡ line ∷ more → formIn s line ≡ refused
+  front-no-form : (line : LineText) (more : List LineText) → lines bytes ≡ line ∷ more → formIn s line ≡ refused
   unfolding formIn
-  first-refused line more e =
+  front-no-form line more e =
       not-form line more (line .ended) refl (subst (λ (ls : List LineText). Front bytes ls) e (lines-front bytes))
 
 pub line-refused :
@@ -93,7 +96,7 @@ line-refused s b bs none = step (lines (b ∷ bs)) refl
         let empty : b ∷ bs ≡ [] = subst (λ (ls : List LineText). Front (b ∷ bs) ls) e (lines-front (b ∷ bs)) in
         let z : _≡_ {A = ℕ} 0 1 = cc in
         absurd (omega arith)
-    step (line ∷ more) e = (line, more, e, first-refused s (b ∷ bs) none line more e)
+    step (line ∷ more) e = (line, more, e, front-no-form s (b ∷ bs) none line more e)
 
 -- Judging a text whose first line is a form, and one whose first line is none.
 pub judge-line :

@@ -9,22 +9,26 @@ use lib.Dec.{leb}
 use lib.ListN.{length}
 use borrow.Author.Tests.{leb-true, leb-false, le-leb, lt-leb}
 use Rattle.wellfounded.proofs.Tests.{first, second, clash}
+use Rattle.tables.specs.Limits.{maxAtoms}
 use Rattle.tables.specs.declared.Fault.{Fault}
 use Rattle.tables.specs.declared.Fault.the-variants.{Malformed, OutsideLimits, OutOfOrder, NoSpace}
-use Rattle.format.specs.Forms.{Form, atomsForm, ruleForm, clauseForm, loadForm, openForm, claimForm, lineEnd, render, renderAll}
+use Rattle.format.specs.Forms.{Form, lineEnd, render, renderAll}
 use Rattle.format.specs.Parse.{Reading, got, refused, readLine}
 use Rattle.judging.specs.declared.reached.Reached.{Reached}
 use Rattle.judging.specs.declared.reached.Space.{Space}
 use Rattle.judging.specs.declared.reached.Judged.{Judged}
 use Rattle.judging.specs.declared.reached.Judged.the-variants.{Failed}
-use Rattle.judging.specs.States.{openStood, start, added, kindIn, sizeIn, after, countsWithin, fits}
-use Rattle.judging.specs.Judging.{numbersWithin, withinLimits, inOrder, on, stop, judgeForm, lines, continued, judgeLines, judgeText, maxBytes}
+use Rattle.judging.specs.LentTables.{Table, fullSize}
+use Rattle.judging.specs.States.{openStood, start, after, countsWithin, fits, countIn}
+use Rattle.judging.specs.Judging.{withinLimits, inOrder, on, stop, judgeForm, lines, continued, judgeLines, judgeText, maxBytes}
 use Rattle.judging.specs.Books.{afterAll, passes, allPass, PassesUpTo, NoRoom, FullSpace}
 use Rattle.judging.specs.Books.{FirstRefused, tooLong, noForm, notPassing, noState}
 use Rattle.judging.proofs.LineLaws.{line-formed, judge-line, judge-refused}
-use Rattle.judging.proofs.Walking.{after-more, judge-passed, Outcome, accepted, refusedAt, walked}
-use Rattle.judging.proofs.Counts.{counted, held-fits}
-use Rattle.judging.proofs.Accepted.{passing}
+use Rattle.judging.proofs.Walking.{after-more, judge-passed, WalkEnd, accepted, refusedAt, walked}
+use Rattle.judging.proofs.Counts.{counts-within, each-fits}
+use Rattle.judging.proofs.TableLaws.{each-table}
+use Rattle.judging.proofs.Accepted.{passed-size}
+use Rattle.judging.proofs.StateLaws.{after-counts, after-size, values-few, levels-few}
 
 module _ (space : Space) (text : List ℕ) (fault : Fault) (at : ℕ) where
   -- Every refusal has its reason.
@@ -32,7 +36,7 @@ module _ (space : Space) (text : List ℕ) (fault : Fault) (at : ℕ) where
   unfolding judgeText
   refused-first e = step (leb (length text) maxBytes) refl e
     where
-      found : (j : Judged) → Outcome space text j → j ≡ Failed fault at → FirstRefused space text fault at
+      found : (j : Judged) → WalkEnd space text j → j ≡ Failed fault at → FirstRefused space text fault at
       found j (accepted fs p whole l same) h = let z : _≡_ {A = ℕ} 0 1 = cc in absurd (omega arith)
       found j (refusedAt fault′ at′ why same) h =
           let faults : fault′ ≡ fault = cc in
@@ -40,13 +44,16 @@ module _ (space : Space) (text : List ℕ) (fault : Fault) (at : ℕ) where
           rw (← faults, ← places) why
 
       step :
-          (b : Bool) → leb (length text) maxBytes ≡ b → cond b (judgeLines space start 0 (lines text)) (Failed OutsideLimits 0) ≡ Failed fault at →
+          (b : Bool) → leb (length text) maxBytes ≡ b →
+          cond b (judgeLines space start 0 (lines text)) (Failed OutsideLimits 0) ≡ Failed fault at →
           FirstRefused space text fault at
       step true l h = found _ (walked space text (leb-true _ _ l)) h
-      step false l h = tooLong (record { long = leb-false _ _ l; told = cc; position = cc })
+      step false l h = tooLong (record { long = leb-false _ _ l; faultIs = cc; position = cc })
 
   -- A text that is not too long is judged from after the forms that pass.
-  module _ (short : length text ≤ maxBytes) (before : List Form) (rest : List ℕ) (p : PassesUpTo space before) (whole : text ≡ renderAll before ++ rest) where
+  module _
+      (short : length text ≤ maxBytes) (before : List Form) (rest : List ℕ) (p : PassesUpTo space before)
+      (whole : text ≡ renderAll before ++ rest) where
     judged-after : judgeText space text ≡ judgeLines space (afterAll start before) (length (renderAll before)) (lines rest)
     unfolding judgeText
     judged-after =
@@ -69,16 +76,16 @@ module _ (space : Space) (text : List ℕ) (fault : Fault) (at : ℕ) where
   -- Every reason is told as such.
   pub first-refused : FirstRefused space text fault at → judgeText space text ≡ Failed fault at
   unfolding judgeText judgeLines lines continued
-  first-refused (tooLong k) = rw (lt-leb (length text) maxBytes (k .long), k .told, k .position)
+  first-refused (tooLong k) = rw (lt-leb (length text) maxBytes (k .long), k .faultIs, k .position)
   first-refused (noForm k) =
       judged-after (k .short) (k .before) (k .rest) (k .passing) (k .whole)
-      ∙ (front-refused _ _ (k .rest) (k .some) (none-read (k .rest) (k .unread)) ∙ rw (k .told, k .position))
+      ∙ (front-refused _ _ (k .rest) (k .some) (none-read (k .rest) (k .unread)) ∙ rw (k .faultIs, k .position))
   first-refused (notPassing k) =
       judged-after (k .short) (k .before) _ (k .passing) (k .whole)
       ∙ (judge-line space (afterAll start (k .before)) (length (renderAll (k .before))) (k .form) (k .rest) ∙ rw (k .stopped, k .position))
   first-refused (noState k) =
       judged-after (k .short) (k .forms) [] (k .passing) (k .whole ∙ sym (append-nil (renderAll (k .forms))))
-      ∙ rw (lt-leb openStood (afterAll start (k .forms) .phase) (k .missing), k .told, k .position, k .whole)
+      ∙ rw (lt-leb openStood (afterAll start (k .forms) .phase) (k .missing), k .faultIs, k .position, k .whole)
 
 -- A form is refused for space exactly if it is within its limits and in order.
 module _ (space : Space) (s : Reached) (f : Form) where
@@ -135,53 +142,22 @@ module _ (space : Space) (text : List ℕ) (at : ℕ) where
         position = k .position;
       }))
 
--- The number of atoms, and with it values and levels, never exceed the most that a book has.
-record Sized (s : Reached) : Type 0 where
-  size : s .size ≤ 1024
-  values : s .values ≤ 1024
-  levels : s .levels ≤ 1024
-
-sized-start : Sized start
-unfolding start
-sized-start = record { size = omega arith; values = omega arith; levels = omega arith }
-
-sized-after : (s : Reached) (f : Form) → numbersWithin s f ≡ true → Sized s → Sized (after s f)
-unfolding after added kindIn sizeIn numbersWithin
-sized-after s (atomsForm n) h k = record { size = leb-true n 1024 h; values = k .values; levels = k .levels }
-sized-after s (ruleForm g ls) h k = record { size = k .size; values = k .values; levels = k .levels }
-sized-after s (clauseForm ls) h k = record { size = k .size; values = k .values; levels = k .levels }
-sized-after s (loadForm lo hi ts) h k = record { size = k .size; values = k .values; levels = k .levels }
-sized-after s (openForm atoms) h k = record { size = k .size; values = k .size; levels = k .levels }
-sized-after s (claimForm ps) h k = record { size = k .size; values = k .size; levels = k .size }
+-- What is counted within the limits of a book has its place in a table of full size.
+counts-full : (s : Reached) → countsWithin s ≡ true → s .size ≤ maxAtoms → (table : Table) → countIn s table ≤ fullSize table
+unfolding countIn fullSize
+counts-full s c l =
+    let n = counts-within s c in
+    each-table (λ table. countIn s table ≤ fullSize table) (n .rules) (n .literals) (n .clauses) (n .loads) (n .terms) (n .terms)
+    (omega (arith, values-few s)) (omega (arith, levels-few s))
 
 module _ (space : Space) where
-  sized-all : (s : Reached) (fs : List Form) → allPass space s fs ≡ true → Sized s → Sized (afterAll s fs)
-  unfolding allPass afterAll
-  sized-all s [] h k = k
-  sized-all s (f ∷ fs) h k =
-      sized-all (after s f) fs (second (passes space s f) _ h) (sized-after s f (passing space s f (first (passes space s f) _ h) .numbers) k)
-
-  full-held : (s : Reached) → FullSpace space → countsWithin s ≡ true → Sized s → fits space s ≡ true
-  full-held s full c k =
-      let n = counted s c in
-      held-fits space s (record {
-        rules = omega arith;
-        literals = omega arith;
-        clauses = omega arith;
-        loads = omega arith;
-        loadLiterals = omega arith;
-        minutes = omega arith;
-        values = omega arith;
-        levels = omega arith;
-      })
+  full-held : (s : Reached) → FullSpace space → countsWithin s ≡ true → s .size ≤ maxAtoms → fits space s ≡ true
+  full-held s full c l = each-fits space s λ table. omega (arith, full .each table, counts-full s c l table)
 
   -- Full tables are never too small.
   pub full-space : (text : List ℕ) (at : ℕ) → FullSpace space → judgeText space text ≡ Failed NoSpace at → ⊥
-  unfolding withinLimits
   full-space text at full e =
       let k = no-space space text at e in
       let s = afterAll start (k .before) in
-      let numbers = first (numbersWithin s (k .form)) (countsWithin (after s (k .form))) (k .within) in
-      let counts = second (numbersWithin s (k .form)) (countsWithin (after s (k .form))) (k .within) in
-      let sized = sized-after s (k .form) numbers (sized-all start (k .before) (k .passing .passed) sized-start) in
-      clash (full-held (after s (k .form)) full counts sized) (rw (after-more start (k .before) (k .form)) at (k .full))
+      let size = after-size s (k .form) (passed-size space (k .before) (k .passing)) (k .within) in
+      clash (full-held (after s (k .form)) full (after-counts s (k .form) (k .within)) size) (rw (after-more start (k .before) (k .form)) at (k .full))

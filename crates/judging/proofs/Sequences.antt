@@ -2,18 +2,23 @@
 -- Assumes nothing.
 use Prim.Native.Nat.{ℕ, _≤_}
 use mathlib.Core.Path.{_≡_, refl, ap}
-use mathlib.Core.Bool.{Bool, true, _&&_, false≢true}
+use mathlib.Core.Logic.{⊎-elim}
+use mathlib.Core.Bool.{Bool, true, false, _&&_, false≢true}
 use mathlib.Core.List.{List, [], _∷_, _++_}
 use native.Mathlib.Omega.{arith}
 use lib.Dec.{eqb, leb}
 use borrow.Author.Tests.{eqb-true, eq-eqb, leb-true, le-leb}
 use Rattle.wellfounded.specs.Lists.{all}
-use Rattle.wellfounded.proofs.Tests.{both, first, second}
-use Rattle.format.specs.Forms.{Form, atomsForm, ruleForm, clauseForm, loadForm, openForm, claimForm}
+use Rattle.wellfounded.proofs.Tests.{both, first, second, either, or-left, or-right, clash}
+use Rattle.format.specs.declared.kinds.Kind.{Kind}
+use Rattle.format.specs.declared.kinds.Kind.the-variants.{Atoms, Rule, Clause, Load, Open, Claim, Unknown}
+use Rattle.format.specs.Forms.{Form}
+use Rattle.format.specs.Views.{kindIn, kindNumber, sameKind, ofKind}
+use Rattle.format.proofs.ViewLaws.{same-kind, of-kind, kind-of}
 use Rattle.judging.specs.declared.reached.Reached.{Reached}
-use Rattle.judging.specs.States.{openStood, start, added, kindIn, after}
+use Rattle.judging.specs.States.{nothingYet, inRules, inClauses, inLoads, openStood, start, phaseAfter, advanced, after}
 use Rattle.judging.specs.Judging.{between, mayFollow}
-use Rattle.judging.specs.Books.{isRule, isClause, isLoad, isState, InSequence}
+use Rattle.judging.specs.Books.{isState, InSequence}
 
 -- Each form may follow the one before, and the last tells the state.
 unfoldable pub follows : Reached → List Form → Bool
@@ -29,22 +34,51 @@ module _ (low high p : ℕ) where
   unfolding between
   between-make l h = both (leb low p) _ (le-leb low p l) (le-leb p high h)
 
--- Nothing may follow a state form.
-pub may-phase : (f : Form) (p : ℕ) → mayFollow (kindIn f) p ≡ true → p ≤ 3
-unfolding mayFollow kindIn
-may-phase (atomsForm n) p h = omega (arith, eqb-true p 0 h)
-may-phase (ruleForm g ls) p h = omega (arith, between-use 1 1 p h .1)
-may-phase (clauseForm ls) p h = omega (arith, between-use 1 2 p h .1)
-may-phase (loadForm lo hi ts) p h = between-use 1 3 p h .1
-may-phase (openForm atoms) p h = between-use 1 3 p h .1
-may-phase (claimForm ps) p h = between-use 1 3 p h .1
+-- What it says of a phase that a form of some kind may follow in it: no state form stood; and an atoms form stood before all other forms, and
+-- only there may one follow.
+pub record Followed (k : Kind) (p : ℕ) : Type 0 where
+  pub early : p ≤ inLoads
+  pub onwards : inRules ≤ phaseAfter k
+  pub noAtoms : inRules ≤ p → sameKind k Atoms ≡ false
+  pub later : sameKind k Atoms ≡ false → inRules ≤ p
 
+stands-between :
+    (k : Kind) (top p : ℕ) → top ≤ inLoads → between inRules top p ≡ true → inRules ≤ phaseAfter k → sameKind k Atoms ≡ false → Followed k p
+stands-between k top p l h on other =
+    let k = between-use inRules top p h in
+    record { early = omega arith; onwards = on; noAtoms = λ b. other; later = λ e. k .0 }
+
+pub may-follow : (k : Kind) (p : ℕ) → mayFollow k p ≡ true → Followed k p
+unfolding mayFollow phaseAfter sameKind kindNumber
+may-follow Atoms p h =
+    let first = eqb-true p nothingYet h in
+    record { early = omega arith; onwards = omega arith; noAtoms = λ b. absurd (omega arith); later = λ e. absurd (clash refl e) }
+may-follow Rule p h = stands-between Rule inRules p (omega arith) h (omega arith) refl
+may-follow Clause p h = stands-between Clause inClauses p (omega arith) h (omega arith) refl
+may-follow Load p h = stands-between Load inLoads p (omega arith) h (omega arith) refl
+may-follow Open p h = stands-between Open inLoads p (omega arith) h (omega arith) refl
+may-follow Claim p h = stands-between Claim inLoads p (omega arith) h (omega arith) refl
+may-follow Unknown p h = absurd (false≢true h)
+
+-- The first form and those after it.
+module _ (s : Reached) (f : Form) (fs : List Form) (h : follows s (f ∷ fs) ≡ true) where
+  pub follows-here : Followed (kindIn f) (s .phase)
+  unfolding follows
+  follows-here = may-follow (kindIn f) (s .phase) (first (mayFollow (kindIn f) (s .phase)) _ h)
+
+  pub follows-later : follows (after s f) fs ≡ true
+  unfolding follows
+  follows-later = second (mayFollow (kindIn f) (s .phase)) _ h
+
+  -- Once an atoms form stood, one stands.
+  pub phase-on : inRules ≤ after s f .phase
+  unfolding after advanced
+  phase-on = follows-here .onwards
+
+-- Nothing may follow a state form.
 nothing-after : (s : Reached) (fs : List Form) → openStood ≤ s .phase → follows s fs ≡ true → fs ≡ []
-unfolding follows
 nothing-after s [] l h = refl
-nothing-after s (f ∷ fs) l h =
-    let early = may-phase f (s .phase) (first (mayFollow (kindIn f) (s .phase)) _ h) in
-    absurd (omega arith)
+nothing-after s (f ∷ fs) l h = let here = follows-here s f fs h in absurd (omega arith)
 
 -- What follows an atoms form; no rule stands after a clause, and none of both after a load line.
 record Tail (phase : ℕ) (fs : List Form) : Type 0 where
@@ -52,187 +86,188 @@ record Tail (phase : ℕ) (fs : List Form) : Type 0 where
   clauses : List Form
   loads : List Form
   state : Form
-  areRules : all isRule rules ≡ true
-  areClauses : all isClause clauses ≡ true
-  areLoads : all isLoad loads ≡ true
+  areRules : all (ofKind Rule) rules ≡ true
+  areClauses : all (ofKind Clause) clauses ≡ true
+  areLoads : all (ofKind Load) loads ≡ true
   tellsState : isState state ≡ true
   whole : fs ≡ rules ++ (clauses ++ (loads ++ (state ∷ [])))
-  noRules : 2 ≤ phase → rules ≡ []
-  noClauses : 3 ≤ phase → clauses ≡ []
+  noRules : inClauses ≤ phase → rules ≡ []
+  noClauses : inLoads ≤ phase → clauses ≡ []
 
-ending : (phase : ℕ) (f : Form) (fs : List Form) → isState f ≡ true → fs ≡ [] → Tail phase (f ∷ fs)
-unfolding all
-ending phase f fs h e =
-    record {
-      rules = [];
-      clauses = [];
-      loads = [];
-      state = f;
-      areRules = refl;
-      areClauses = refl;
-      areLoads = refl;
-      tellsState = h;
-      whole = ap (λ (gs : List Form). f ∷ gs) e;
-      noRules = (λ l. refl);
-      noClauses = (λ l. refl);
-    }
+-- A form before a tail, by its kind.
+module _ (f : Form) (fs : List Form) {phase : ℕ} where
+  rule-tail : phase ≤ inRules → kindIn f ≡ Rule → Tail inRules fs → Tail phase (f ∷ fs)
+  unfolding all
+  rule-tail l e k =
+      record {
+        rules = f ∷ k .rules;
+        clauses = k .clauses;
+        loads = k .loads;
+        state = k .state;
+        areRules = both (ofKind Rule f) _ (kind-of Rule f e) (k .areRules);
+        areClauses = k .areClauses;
+        areLoads = k .areLoads;
+        tellsState = k .tellsState;
+        whole = ap (λ (gs : List Form). f ∷ gs) (k .whole);
+        noRules = (λ b. absurd (omega arith));
+        noClauses = (λ b. absurd (omega arith));
+      }
 
-tail : (s : Reached) (fs : List Form) → 1 ≤ s .phase → s .phase ≤ 3 → follows s fs ≡ true → Tail (s .phase) fs
-unfolding follows mayFollow kindIn after added isRule isClause isLoad isState all
+  clause-tail : phase ≤ inClauses → kindIn f ≡ Clause → Tail inClauses fs → Tail phase (f ∷ fs)
+  unfolding all
+  clause-tail l e k =
+      let later : fs ≡ k .clauses ++ (k .loads ++ (k .state ∷ [])) = rw (k .noRules (omega arith)) at (k .whole) in
+      record {
+        rules = [];
+        clauses = f ∷ k .clauses;
+        loads = k .loads;
+        state = k .state;
+        areRules = refl;
+        areClauses = both (ofKind Clause f) _ (kind-of Clause f e) (k .areClauses);
+        areLoads = k .areLoads;
+        tellsState = k .tellsState;
+        whole = ap (λ (gs : List Form). f ∷ gs) later;
+        noRules = (λ b. refl);
+        noClauses = (λ b. absurd (omega arith));
+      }
+
+  load-tail : kindIn f ≡ Load → Tail inLoads fs → Tail phase (f ∷ fs)
+  unfolding all
+  load-tail e k =
+      let later : fs ≡ k .loads ++ (k .state ∷ []) = rw (k .noRules (omega arith), k .noClauses (omega arith)) at (k .whole) in
+      record {
+        rules = [];
+        clauses = [];
+        loads = f ∷ k .loads;
+        state = k .state;
+        areRules = refl;
+        areClauses = refl;
+        areLoads = both (ofKind Load f) _ (kind-of Load f e) (k .areLoads);
+        tellsState = k .tellsState;
+        whole = ap (λ (gs : List Form). f ∷ gs) later;
+        noRules = (λ b. refl);
+        noClauses = (λ b. refl);
+      }
+
+  state-tail : isState f ≡ true → fs ≡ [] → Tail phase (f ∷ fs)
+  unfolding all
+  state-tail h e =
+      record {
+        rules = [];
+        clauses = [];
+        loads = [];
+        state = f;
+        areRules = refl;
+        areClauses = refl;
+        areLoads = refl;
+        tellsState = h;
+        whole = ap (λ (gs : List Form). f ∷ gs) e;
+        noRules = (λ b. refl);
+        noClauses = (λ b. refl);
+      }
+
+  -- What follows a form is a tail in the phase after it, or nothing follows.
+  kind-tail :
+      (k : Kind) → kindIn f ≡ k → inRules ≤ phase → mayFollow k phase ≡ true → (phaseAfter k ≤ inLoads → Tail (phaseAfter k) fs) →
+      (openStood ≤ phaseAfter k → fs ≡ []) → Tail phase (f ∷ fs)
+  unfolding mayFollow phaseAfter isState
+  kind-tail Atoms e low h more none = absurd (omega (arith, eqb-true phase nothingYet h))
+  kind-tail Rule e low h more none = rule-tail (between-use inRules inRules phase h .1) e (more (omega arith))
+  kind-tail Clause e low h more none = clause-tail (between-use inRules inClauses phase h .1) e (more (omega arith))
+  kind-tail Load e low h more none = load-tail e (more (omega arith))
+  kind-tail Open e low h more none = state-tail (or-left (ofKind Open f) _ (kind-of Open f e)) (none (omega arith))
+  kind-tail Claim e low h more none = state-tail (or-right (ofKind Open f) _ (kind-of Claim f e)) (none (omega arith))
+  kind-tail Unknown e low h more none = absurd (false≢true h)
+
+tail : (s : Reached) (fs : List Form) → inRules ≤ s .phase → s .phase ≤ inLoads → follows s fs ≡ true → Tail (s .phase) fs
+unfolding follows after advanced
 tail s [] low high h = absurd (omega (arith, leb-true openStood (s .phase) h))
-tail s (atomsForm n ∷ fs) low high h = absurd (omega (arith, eqb-true (s .phase) 0 (first (eqb (s .phase) 0) _ h)))
-tail s (ruleForm g ls ∷ fs) low high h =
-    let here = between-use 1 1 (s .phase) (first (between 1 1 (s .phase)) _ h) in
-    let k = tail (after s (ruleForm g ls)) fs (omega arith) (omega arith) (second (between 1 1 (s .phase)) _ h) in
-    record {
-      rules = ruleForm g ls ∷ k .rules;
-      clauses = k .clauses;
-      loads = k .loads;
-      state = k .state;
-      areRules = k .areRules;
-      areClauses = k .areClauses;
-      areLoads = k .areLoads;
-      tellsState = k .tellsState;
-      whole = ap (λ (gs : List Form). ruleForm g ls ∷ gs) (k .whole);
-      noRules = (λ l. absurd (omega arith));
-      noClauses = (λ l. absurd (omega arith));
-    }
-tail s (clauseForm ls ∷ fs) low high h =
-    let here = between-use 1 2 (s .phase) (first (between 1 2 (s .phase)) _ h) in
-    let k = tail (after s (clauseForm ls)) fs (omega arith) (omega arith) (second (between 1 2 (s .phase)) _ h) in
-    let later : fs ≡ k .clauses ++ (k .loads ++ (k .state ∷ [])) = rw (k .noRules (omega arith)) at (k .whole) in
-    record {
-      rules = [];
-      clauses = clauseForm ls ∷ k .clauses;
-      loads = k .loads;
-      state = k .state;
-      areRules = refl;
-      areClauses = k .areClauses;
-      areLoads = k .areLoads;
-      tellsState = k .tellsState;
-      whole = ap (λ (gs : List Form). clauseForm ls ∷ gs) later;
-      noRules = (λ l. refl);
-      noClauses = (λ l. absurd (omega arith));
-    }
-tail s (loadForm lo hi ts ∷ fs) low high h =
-    let k = tail (after s (loadForm lo hi ts)) fs (omega arith) (omega arith) (second (between 1 3 (s .phase)) _ h) in
-    let later : fs ≡ k .loads ++ (k .state ∷ []) = rw (k .noRules (omega arith), k .noClauses (omega arith)) at (k .whole) in
-    record {
-      rules = [];
-      clauses = [];
-      loads = loadForm lo hi ts ∷ k .loads;
-      state = k .state;
-      areRules = refl;
-      areClauses = refl;
-      areLoads = k .areLoads;
-      tellsState = k .tellsState;
-      whole = ap (λ (gs : List Form). loadForm lo hi ts ∷ gs) later;
-      noRules = (λ l. refl);
-      noClauses = (λ l. refl);
-    }
-tail s (openForm atoms ∷ fs) low high h =
-    ending _ (openForm atoms) fs refl (nothing-after (after s (openForm atoms)) fs (omega arith) (second (between 1 3 (s .phase)) _ h))
-tail s (claimForm ps ∷ fs) low high h =
-    ending _ (claimForm ps) fs refl (nothing-after (after s (claimForm ps)) fs (omega arith) (second (between 1 3 (s .phase)) _ h))
+tail s (f ∷ fs) low high h =
+    kind-tail f fs (kindIn f) refl low (first (mayFollow (kindIn f) (s .phase)) _ h)
+    (λ l. tail (after s f) fs (follows-here s f fs h .onwards) l (follows-later s f fs h))
+    (λ l. nothing-after (after s f) fs l (follows-later s f fs h))
 
-not-first : (low high : ℕ) (b : Bool) → 1 ≤ low → (between low high 0 && b) ≡ true → ⊥
-not-first low high b l h = omega (arith, between-use low high 0 (first (between low high 0) b h) .0)
+-- Only an atoms form may come first.
+first-atoms : (k : Kind) → mayFollow k nothingYet ≡ true → k ≡ Atoms
+unfolding mayFollow
+first-atoms k h = step (sameKind k Atoms) refl
+  where
+    step : (b : Bool) → sameKind k Atoms ≡ b → k ≡ Atoms
+    step true e = same-kind k Atoms e
+    step false e = let low = may-follow k nothingYet h .later e in absurd (omega arith)
 
 pub follows-sequence : (fs : List Form) → follows start fs ≡ true → InSequence fs
-unfolding follows mayFollow kindIn after added start
-follows-sequence [] h = absurd (omega (arith, leb-true openStood 0 h))
-follows-sequence (atomsForm n ∷ fs) h =
-    let k = tail (after start (atomsForm n)) fs (omega arith) (omega arith) (second (eqb 0 0) _ h) in
+unfolding follows after advanced start phaseAfter
+follows-sequence [] h = absurd (omega (arith, leb-true openStood nothingYet h))
+follows-sequence (f ∷ fs) h =
+    let e : kindIn f ≡ Atoms = first-atoms (kindIn f) (first (mayFollow (kindIn f) nothingYet) _ h) in
+    let begun : after start f .phase ≡ inRules = rw e in
+    let k = tail (after start f) fs (omega arith) (omega arith) (second (mayFollow (kindIn f) nothingYet) _ h) in
     record {
-      atoms = n;
+      atoms = f;
       rules = k .rules;
       clauses = k .clauses;
       loads = k .loads;
       state = k .state;
+      areAtoms = kind-of Atoms f e;
       areRules = k .areRules;
       areClauses = k .areClauses;
       areLoads = k .areLoads;
       tellsState = k .tellsState;
-      whole = ap (λ (gs : List Form). atomsForm n ∷ gs) (k .whole);
+      whole = ap (λ (gs : List Form). f ∷ gs) (k .whole);
     }
-follows-sequence (ruleForm g ls ∷ fs) h = absurd (not-first 1 1 _ (omega arith) h)
-follows-sequence (clauseForm ls ∷ fs) h = absurd (not-first 1 2 _ (omega arith) h)
-follows-sequence (loadForm lo hi ts ∷ fs) h = absurd (not-first 1 3 _ (omega arith) h)
-follows-sequence (openForm atoms ∷ fs) h = absurd (not-first 1 3 _ (omega arith) h)
-follows-sequence (claimForm ps ∷ fs) h = absurd (not-first 1 3 _ (omega arith) h)
 
 -- From a phase of rules up to some other, forms of one kind may stand before what may follow them.
 record Stands (top : ℕ) (s : Reached) : Type 0 where
-  low : 1 ≤ s .phase
+  low : inRules ≤ s .phase
   high : s .phase ≤ top
 
-module _ (test : Form → Bool) (top : ℕ) (some : 1 ≤ top) where
-  abbrev Fits : Type 0
-  Fits = (f : Form) (s : Reached) → test f ≡ true → Stands top s → (mayFollow (kindIn f) (s .phase) ≡ true) × (after s f .phase ≡ top)
-
+module _ (kind : Kind) (top : ℕ) (some : inRules ≤ top) (leaves : phaseAfter kind ≡ top) where
   segment :
-      Fits → (rest : List Form) → ((s : Reached) → Stands top s → follows s rest ≡ true) → (xs : List Form) → all test xs ≡ true →
+      ((p : ℕ) → between inRules top p ≡ true → mayFollow kind p ≡ true) → (rest : List Form) →
+      ((s : Reached) → Stands top s → follows s rest ≡ true) → (xs : List Form) → all (ofKind kind) xs ≡ true →
       (s : Reached) → Stands top s → follows s (xs ++ rest) ≡ true
-  unfolding follows all
-  segment fit rest later [] h s stands = later s stands
-  segment fit rest later (f ∷ xs) h s stands =
-      let here = fit f s (first (test f) _ h) stands in
-      both (mayFollow (kindIn f) (s .phase)) _ (here .0)
-      (segment fit rest later xs (second (test f) _ h) (after s f) (record { low = omega (arith, here .1); high = omega (arith, here .1) }))
-
-rule-fits : Fits isRule 1 (omega arith)
-unfolding isRule mayFollow kindIn after added
-rule-fits (atomsForm n) s h stands = absurd (false≢true h)
-rule-fits (ruleForm g ls) s h stands = (between-make 1 1 (s .phase) (stands .low) (stands .high), refl)
-rule-fits (clauseForm ls) s h stands = absurd (false≢true h)
-rule-fits (loadForm lo hi ts) s h stands = absurd (false≢true h)
-rule-fits (openForm atoms) s h stands = absurd (false≢true h)
-rule-fits (claimForm ps) s h stands = absurd (false≢true h)
-
-clause-fits : Fits isClause 2 (omega arith)
-unfolding isClause mayFollow kindIn after added
-clause-fits (atomsForm n) s h stands = absurd (false≢true h)
-clause-fits (ruleForm g ls) s h stands = absurd (false≢true h)
-clause-fits (clauseForm ls) s h stands = (between-make 1 2 (s .phase) (stands .low) (stands .high), refl)
-clause-fits (loadForm lo hi ts) s h stands = absurd (false≢true h)
-clause-fits (openForm atoms) s h stands = absurd (false≢true h)
-clause-fits (claimForm ps) s h stands = absurd (false≢true h)
-
-load-fits : Fits isLoad 3 (omega arith)
-unfolding isLoad mayFollow kindIn after added
-load-fits (atomsForm n) s h stands = absurd (false≢true h)
-load-fits (ruleForm g ls) s h stands = absurd (false≢true h)
-load-fits (clauseForm ls) s h stands = absurd (false≢true h)
-load-fits (loadForm lo hi ts) s h stands = (between-make 1 3 (s .phase) (stands .low) (stands .high), refl)
-load-fits (openForm atoms) s h stands = absurd (false≢true h)
-load-fits (claimForm ps) s h stands = absurd (false≢true h)
+  unfolding follows all after advanced
+  segment may rest later [] h s stands = later s stands
+  segment may rest later (f ∷ xs) h s stands =
+      let e : kindIn f ≡ kind = of-kind kind f (first (ofKind kind f) _ h) in
+      let then : after s f .phase ≡ top = rw e leaves in
+      both (mayFollow (kindIn f) (s .phase)) _ (rw e (may (s .phase) (between-make inRules top (s .phase) (stands .low) (stands .high))))
+      (segment may rest later xs (second (ofKind kind f) _ h) (after s f) (record { low = omega arith; high = omega arith }))
 
 widened : (low high : ℕ) (s : Reached) → low ≤ high → Stands low s → Stands high s
 widened low high s l stands = record { low = stands .low; high = omega (arith, stands .high) }
 
-state-follows : (f : Form) → isState f ≡ true → (s : Reached) → Stands 3 s → follows s (f ∷ []) ≡ true
-unfolding isState follows mayFollow kindIn after added
-state-follows (atomsForm n) h s stands = absurd (false≢true h)
-state-follows (ruleForm g ls) h s stands = absurd (false≢true h)
-state-follows (clauseForm ls) h s stands = absurd (false≢true h)
-state-follows (loadForm lo hi ts) h s stands = absurd (false≢true h)
-state-follows (openForm atoms) h s stands = both (between 1 3 (s .phase)) _ (between-make 1 3 (s .phase) (stands .low) (stands .high)) refl
-state-follows (claimForm ps) h s stands = both (between 1 3 (s .phase)) _ (between-make 1 3 (s .phase) (stands .low) (stands .high)) refl
+state-follows : (f : Form) → isState f ≡ true → (s : Reached) → Stands inLoads s → follows s (f ∷ []) ≡ true
+unfolding isState follows mayFollow after advanced phaseAfter
+state-follows f h s stands =
+    let may = between-make inRules inLoads (s .phase) (stands .low) (stands .high) in
+    ⊎-elim (λ o. rw (of-kind Open f o) (both (between inRules inLoads (s .phase)) _ may refl))
+    (λ c. rw (of-kind Claim f c) (both (between inRules inLoads (s .phase)) _ may refl)) (either (ofKind Open f) _ h)
 
-atoms-follow : (n : ℕ) (fs : List Form) → ((s : Reached) → Stands 1 s → follows s fs ≡ true) → follows start (atomsForm n ∷ fs) ≡ true
-unfolding follows mayFollow kindIn after added start
-atoms-follow n fs later = both (eqb 0 0) _ (eq-eqb 0 0 refl) (later (after start (atomsForm n)) (record { low = omega arith; high = omega arith }))
+atoms-follow :
+    (f : Form) (fs : List Form) → ofKind Atoms f ≡ true → ((s : Reached) → Stands inRules s → follows s fs ≡ true) →
+    follows start (f ∷ fs) ≡ true
+unfolding follows mayFollow after advanced phaseAfter start
+atoms-follow f fs h later =
+    let e : kindIn f ≡ Atoms = of-kind Atoms f h in
+    let then : after start f .phase ≡ inRules = rw e in
+    both (mayFollow (kindIn f) nothingYet) _ (rw e) (later (after start f) (record { low = omega arith; high = omega arith }))
 
 pub sequence-follows : (fs : List Form) → InSequence fs → follows start fs ≡ true
-sequence-follows fs q = rw (q .whole) (atoms-follow (q .atoms) _ rules-follow)
+unfolding mayFollow phaseAfter
+sequence-follows fs q = rw (q .whole) (atoms-follow (q .atoms) _ (q .areAtoms) rules-follow)
   where
-    loads-follow : (s : Reached) → Stands 3 s → follows s (q .loads ++ (q .state ∷ [])) ≡ true
-    loads-follow = segment isLoad 3 (omega arith) load-fits (q .state ∷ []) (state-follows (q .state) (q .tellsState)) (q .loads) (q .areLoads)
+    loads-follow : (s : Reached) → Stands inLoads s → follows s (q .loads ++ (q .state ∷ [])) ≡ true
+    loads-follow =
+        segment Load inLoads (omega arith) refl (λ p b. b) (q .state ∷ []) (state-follows (q .state) (q .tellsState)) (q .loads) (q .areLoads)
 
-    clauses-follow : (s : Reached) → Stands 2 s → follows s (q .clauses ++ (q .loads ++ (q .state ∷ []))) ≡ true
+    clauses-follow : (s : Reached) → Stands inClauses s → follows s (q .clauses ++ (q .loads ++ (q .state ∷ []))) ≡ true
     clauses-follow =
-        segment isClause 2 (omega arith) clause-fits _ (λ s stands. loads-follow s (widened 2 3 s (omega arith) stands)) (q .clauses) (q .areClauses)
+        segment Clause inClauses (omega arith) refl (λ p b. b) _ (λ s stands. loads-follow s (widened inClauses inLoads s (omega arith) stands))
+        (q .clauses) (q .areClauses)
 
-    rules-follow : (s : Reached) → Stands 1 s → follows s (q .rules ++ (q .clauses ++ (q .loads ++ (q .state ∷ [])))) ≡ true
+    rules-follow : (s : Reached) → Stands inRules s → follows s (q .rules ++ (q .clauses ++ (q .loads ++ (q .state ∷ [])))) ≡ true
     rules-follow =
-        segment isRule 1 (omega arith) rule-fits _ (λ s stands. clauses-follow s (widened 1 2 s (omega arith) stands)) (q .rules) (q .areRules)
+        segment Rule inRules (omega arith) refl (λ p b. b) _ (λ s stands. clauses-follow s (widened inRules inClauses s (omega arith) stands))
+        (q .rules) (q .areRules)

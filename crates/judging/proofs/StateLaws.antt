@@ -1,18 +1,22 @@
 -- Laws of the states that lines reach: they stay within the limits of a book, and what a form that was judged well says of the state after it.
 -- Assumes nothing.
-use Prim.Native.Nat.{ℕ, _≤_}
+use Prim.Native.Nat.{ℕ, _≤_, _<_}
 use mathlib.Core.Path.{_≡_, refl}
-use mathlib.Core.Bool.{Bool, true, false, cond}
+use mathlib.Core.Bool.{Bool, true, false, cond, _||_}
 use native.Mathlib.Omega.{arith}
-use lib.Dec.{eqb}
-use borrow.Author.Tests.{leb-true}
+use lib.Dec.{eqb, leb}
+use borrow.Author.Tests.{le-leb, lt-leb}
 use Rattle.wellfounded.proofs.Tests.{first, second}
 use Rattle.tables.specs.Limits.{maxAtoms}
 use Rattle.tables.specs.declared.Fault.the-variants.{OutsideLimits, OutOfOrder, NoSpace}
-use Rattle.format.specs.Forms.{Form, atomsForm, ruleForm, clauseForm, loadForm, openForm, claimForm}
+use Rattle.format.specs.declared.kinds.Kind.{Kind}
+use Rattle.format.specs.declared.kinds.Kind.the-variants.{Atoms, Rule, Clause, Load, Open, Claim, Unknown}
+use Rattle.format.specs.Forms.{Form}
+use Rattle.format.specs.Views.{viewOf, kindIn, kindNumber, sameKind}
 use Rattle.judging.specs.declared.reached.Reached.{Reached}
 use Rattle.judging.specs.declared.reached.Space.{Space}
-use Rattle.judging.specs.States.{nothingYet, start, added, kindIn, sizeIn, after, countsWithin, fits}
+use Rattle.judging.specs.States.{nothingYet, openStood, claimStood, start, phaseAfter, advanced, after, countsWithin, valuesCounted, levelsCounted, fits}
+use Rattle.judging.proofs.LimitLaws.{size-limit}
 use Rattle.judging.specs.Judging.{atomBound, numbersWithin, withinLimits, inOrder, on, stop, judgeForm}
 
 -- Before the first line nothing is counted.
@@ -26,13 +30,12 @@ unfolding withinLimits
 after-counts s f t = second (numbersWithin s f) _ t
 
 pub after-size : (s : Reached) (f : Form) → s .size ≤ maxAtoms → withinLimits s f ≡ true → after s f .size ≤ maxAtoms
-unfolding after added kindIn sizeIn withinLimits numbersWithin
-after-size s (atomsForm n) l t = leb-true n maxAtoms (first _ _ t)
-after-size s (ruleForm h ls) l t = l
-after-size s (clauseForm ls) l t = l
-after-size s (loadForm lo hi ts) l t = l
-after-size s (openForm atoms) l t = l
-after-size s (claimForm ps) l t = l
+unfolding after advanced withinLimits
+after-size s f l t = step (sameKind (kindIn f) Atoms)
+  where
+    step : (named : Bool) → cond named (viewOf f .size) (s .size) ≤ maxAtoms
+    step true = size-limit s f (first _ _ t)
+    step false = l
 
 -- Open atoms have a bound within the limits of a book.
 pub bound-most : (s : Reached) → s .size ≤ maxAtoms → atomBound s ≤ maxAtoms
@@ -42,6 +45,59 @@ bound-most s l = step (eqb (s .phase) nothingYet)
     step : (t : Bool) → cond t maxAtoms (s .size) ≤ maxAtoms
     step true = omega arith
     step false = l
+
+-- Values are counted from a state form on, levels from a claim on, and never more than the atoms.
+module _ (s : Reached) where
+  pub values-early : s .phase < openStood → valuesCounted s ≡ 0
+  unfolding valuesCounted
+  values-early l = rw (lt-leb openStood (s .phase) l)
+
+  pub levels-early : s .phase < claimStood → levelsCounted s ≡ 0
+  unfolding levelsCounted
+  levels-early l = rw (lt-leb claimStood (s .phase) l)
+
+  pub values-told : openStood ≤ s .phase → valuesCounted s ≡ s .size
+  unfolding valuesCounted
+  values-told l = rw (le-leb openStood (s .phase) l)
+
+  pub levels-told : claimStood ≤ s .phase → levelsCounted s ≡ s .size
+  unfolding levelsCounted
+  levels-told l = rw (le-leb claimStood (s .phase) l)
+
+  one-or-none : (t : Bool) → cond t (s .size) 0 ≤ s .size
+  one-or-none true = omega arith
+  one-or-none false = omega arith
+
+  pub values-few : valuesCounted s ≤ s .size
+  unfolding valuesCounted
+  values-few = one-or-none (leb openStood (s .phase))
+
+  pub levels-few : levelsCounted s ≤ s .size
+  unfolding levelsCounted
+  levels-few = one-or-none (leb claimStood (s .phase))
+
+-- A form that tells a state counts a value for each atom, and a claim a level too; after other forms there are none.
+kind-counts :
+    (k : Kind) (n size : ℕ) →
+    (cond (leb openStood (phaseAfter k)) (cond (sameKind k Atoms) n size) 0 ≡ cond (sameKind k Open || sameKind k Claim) size 0)
+    × (cond (leb claimStood (phaseAfter k)) (cond (sameKind k Atoms) n size) 0 ≡ cond (sameKind k Claim) size 0)
+unfolding phaseAfter sameKind kindNumber
+kind-counts Atoms n size = (refl, refl)
+kind-counts Rule n size = (refl, refl)
+kind-counts Clause n size = (refl, refl)
+kind-counts Load n size = (refl, refl)
+kind-counts Open n size = (refl, refl)
+kind-counts Claim n size = (refl, refl)
+kind-counts Unknown n size = (refl, refl)
+
+module _ (s : Reached) (f : Form) where
+  pub values-after : valuesCounted (after s f) ≡ cond (sameKind (kindIn f) Open || sameKind (kindIn f) Claim) (s .size) 0
+  unfolding valuesCounted after advanced
+  values-after = kind-counts (kindIn f) (viewOf f .size) (s .size) .0
+
+  pub levels-after : levelsCounted (after s f) ≡ cond (sameKind (kindIn f) Claim) (s .size) 0
+  unfolding levelsCounted after advanced
+  levels-after = kind-counts (kindIn f) (viewOf f .size) (s .size) .1
 
 -- A form judged well is within its limits, in order, and has space.
 judged-on :

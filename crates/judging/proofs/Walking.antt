@@ -35,7 +35,9 @@ module _ (space : Space) (s : Reached) (f : Form) where
   unfolding passes judgeForm
   on-passes t h = step (withinLimits s f) (inOrder s f) (fits space (after s f)) h
     where
-      step : (a b c : Bool) → cond a (cond b (cond c (on (after s f)) (stop NoSpace)) (stop OutOfOrder)) (stop OutsideLimits) ≡ on t → (a && (b && c)) ≡ true
+      step :
+          (a b c : Bool) → cond a (cond b (cond c (on (after s f)) (stop NoSpace)) (stop OutOfOrder)) (stop OutsideLimits) ≡ on t →
+          (a && (b && c)) ≡ true
       step true true true e = refl
       step true true false e = let z : _≡_ {A = ℕ} 0 1 = cc in absurd (omega arith)
       step true false c e = let z : _≡_ {A = ℕ} 0 1 = cc in absurd (omega arith)
@@ -55,7 +57,8 @@ pass-more space s [] f h k = both (passes space s f) _ k refl
 pass-more space s (g ∷ fs) f h k =
     both (passes space s g) _ (first (passes space s g) _ h) (pass-more space (after s g) fs f (second (passes space s g) _ h) k)
 
-pub render-more : (fs : List Form) (f : Form) (rest : List ℕ) → renderAll (fs ++ (f ∷ [])) ++ rest ≡ renderAll fs ++ (render f ++ (lineEnd ∷ rest))
+pub render-more :
+    (fs : List Form) (f : Form) (rest : List ℕ) → renderAll (fs ++ (f ∷ [])) ++ rest ≡ renderAll fs ++ (render f ++ (lineEnd ∷ rest))
 unfolding renderAll
 render-more [] f rest = append-assoc (render f) (lineEnd ∷ []) rest
 render-more (g ∷ fs) f rest = simp append-assoc (ap (λ (l : List ℕ). render g ++ (lineEnd ∷ l)) (render-more fs f rest))
@@ -82,11 +85,11 @@ forms-all s [] = refl
 forms-all s (f ∷ fs) = forms-line s f (renderAll fs) ∙ ap (λ (gs : List Form). f ∷ gs) (forms-all (after s f) fs)
 
 -- What the walk over a text comes to: all its forms pass and the last tells the state, or the text is refused.
-pub data Outcome (space : Space) (text : List ℕ) (j : Judged) : Type 0 where
+pub data WalkEnd (space : Space) (text : List ℕ) (j : Judged) : Type 0 where
   accepted :
       (fs : List Form) → PassesUpTo space fs → text ≡ renderAll fs → openStood ≤ afterAll start fs .phase → j ≡ Passed (afterAll start fs) →
-      Outcome space text j
-  refusedAt : (fault : Fault) (at : ℕ) → FirstRefused space text fault at → j ≡ Failed fault at → Outcome space text j
+      WalkEnd space text j
+  refusedAt : (fault : Fault) (at : ℕ) → FirstRefused space text fault at → j ≡ Failed fault at → WalkEnd space text j
 
 module _ (space : Space) (text : List ℕ) (short : length text ≤ maxBytes) where
   -- The rest of a text, after forms that pass.
@@ -97,7 +100,7 @@ module _ (space : Space) (text : List ℕ) (short : length text ≤ maxBytes) wh
   abbrev judged : List Form → List ℕ → Judged
   judged before rest = judgeLines space (afterAll start before) (length (renderAll before)) (lines rest)
 
-  ended : (before : List Form) → Rest before [] → Outcome space text (judged before [])
+  ended : (before : List Form) → Rest before [] → WalkEnd space text (judged before [])
   unfolding judgeLines lines
   ended before r = step (leb openStood (afterAll start before .phase)) refl
     where
@@ -106,7 +109,7 @@ module _ (space : Space) (text : List ℕ) (short : length text ≤ maxBytes) wh
 
       step :
           (t : Bool) → leb openStood (afterAll start before .phase) ≡ t →
-          Outcome space text (cond t (Passed (afterAll start before)) (Failed OutOfOrder (length (renderAll before))))
+          WalkEnd space text (cond t (Passed (afterAll start before)) (Failed OutOfOrder (length (renderAll before))))
       step true e = accepted before (r .passing) all-read (leb-true _ _ e) refl
       step false e =
           refusedAt OutOfOrder (length (renderAll before))
@@ -116,12 +119,14 @@ module _ (space : Space) (text : List ℕ) (short : length text ≤ maxBytes) wh
             passing = r .passing;
             whole = all-read;
             missing = leb-false _ _ e;
-            told = refl;
+            faultIs = refl;
             position = ap length (sym all-read);
           }))
           refl
 
-  unread : (before : List Form) (b : ℕ) (bs : List ℕ) → Rest before (b ∷ bs) → readLine (b ∷ bs) ≡ refused → Outcome space text (judged before (b ∷ bs))
+  unread :
+      (before : List Form) (b : ℕ) (bs : List ℕ) → Rest before (b ∷ bs) → readLine (b ∷ bs) ≡ refused →
+      WalkEnd space text (judged before (b ∷ bs))
   unread before b bs r none =
       refusedAt Malformed (length (renderAll before))
       (noForm (record {
@@ -132,44 +137,48 @@ module _ (space : Space) (text : List ℕ) (short : length text ≤ maxBytes) wh
         whole = r .whole;
         some = omega arith;
         unread = (λ f later e. let z : _≡_ {A = ℕ} 0 1 = cc (line-reads f later) in omega arith);
-        told = refl;
+        faultIs = refl;
         position = refl;
       }))
       (judge-refused space _ _ b bs none)
 
   -- A form at the front passes, and the walk goes on; or it is refused.
   module _ (before : List Form) (f : Form) (rest : List ℕ) (r : Rest before (render f ++ (lineEnd ∷ rest))) where
-    stopped : (fault : Fault) → judgeForm space (afterAll start before) f ≡ stop fault → Outcome space text (judged before (render f ++ (lineEnd ∷ rest)))
+    stopped :
+        (fault : Fault) → judgeForm space (afterAll start before) f ≡ stop fault →
+        WalkEnd space text (judged before (render f ++ (lineEnd ∷ rest)))
     unfolding continued
     stopped fault e =
         refusedAt fault (length (renderAll before))
         (notPassing (record { short = short; before = before; form = f; rest = rest; passing = r .passing; whole = r .whole; stopped = e; position = refl }))
         (rw (judge-line space (afterAll start before) (length (renderAll before)) f rest, e))
 
-    moved : passes space (afterAll start before) f ≡ true → Rest (before ++ (f ∷ [])) rest
-    moved h =
+    rest-more : passes space (afterAll start before) f ≡ true → Rest (before ++ (f ∷ [])) rest
+    rest-more h =
         record {
           passing = record { passed = pass-more space start before f (r .passing .passed) h };
           whole = r .whole ∙ sym (render-more before f rest);
         }
 
-    judged-more : passes space (afterAll start before) f ≡ true → judged before (render f ++ (lineEnd ∷ rest)) ≡ judged (before ++ (f ∷ [])) rest
+    judged-more :
+        passes space (afterAll start before) f ≡ true → judged before (render f ++ (lineEnd ∷ rest)) ≡ judged (before ++ (f ∷ [])) rest
     unfolding continued
     judged-more h =
         rw (judge-line space (afterAll start before) (length (renderAll before)) f rest, passes-on space (afterAll start before) f h, after-more, length-more)
 
     went :
-        (Rest (before ++ (f ∷ [])) rest → Outcome space text (judged (before ++ (f ∷ [])) rest)) →
-        Outcome space text (judged before (render f ++ (lineEnd ∷ rest)))
+        (Rest (before ++ (f ∷ [])) rest → WalkEnd space text (judged (before ++ (f ∷ [])) rest)) →
+        WalkEnd space text (judged before (render f ++ (lineEnd ∷ rest)))
     went later = step (judgeForm space (afterAll start before) f) refl
       where
-        step : (m : Step) → judgeForm space (afterAll start before) f ≡ m → Outcome space text (judged before (render f ++ (lineEnd ∷ rest)))
+        step :
+            (m : Step) → judgeForm space (afterAll start before) f ≡ m → WalkEnd space text (judged before (render f ++ (lineEnd ∷ rest)))
         step (on t) e =
             let h = on-passes space (afterAll start before) f t e in
-            subst (λ (j : Judged). Outcome space text j) (sym (judged-more h)) (later (moved h))
+            subst (λ (j : Judged). WalkEnd space text j) (sym (judged-more h)) (later (rest-more h))
         step (stop fault) e = stopped fault e
 
-  walk : (fuel : ℕ) (before : List Form) (rest : List ℕ) → length rest ≤ fuel → Rest before rest → Outcome space text (judged before rest)
+  walk : (fuel : ℕ) (before : List Form) (rest : List ℕ) → length rest ≤ fuel → Rest before rest → WalkEnd space text (judged before rest)
   walk zero before [] l r = ended before r
   walk zero before (b ∷ bs) l r = absurd (omega arith)
   walk (suc fuel) before [] l r = ended before r
@@ -177,15 +186,15 @@ module _ (space : Space) (text : List ℕ) (short : length text ≤ maxBytes) wh
     where
       step :
           (line : Reading Form) → readLine (b ∷ bs) ≡ line →
-          ((next : List Form) (rest : List ℕ) → length rest ≤ fuel → Rest next rest → Outcome space text (judged next rest)) →
-          Outcome space text (judged before (b ∷ bs))
+          ((next : List Form) (rest : List ℕ) → length rest ≤ fuel → Rest next rest → WalkEnd space text (judged next rest)) →
+          WalkEnd space text (judged before (b ∷ bs))
       step (got f rest) e again =
           let here : b ∷ bs ≡ render f ++ (lineEnd ∷ rest) = line-formed (b ∷ bs) f rest e in
-          subst (λ (bytes : List ℕ). Outcome space text (judged before bytes)) (sym here)
+          subst (λ (bytes : List ℕ). WalkEnd space text (judged before bytes)) (sym here)
           (went before f rest (subst (λ (bytes : List ℕ). Rest before bytes) here r)
           (again (before ++ (f ∷ [])) rest (omega (arith, simp length-append at (ap length here)))))
       step refused e again = unread before b bs r e
 
-  pub walked : Outcome space text (judgeLines space start 0 (lines text))
+  pub walked : WalkEnd space text (judgeLines space start 0 (lines text))
   unfolding afterAll renderAll allPass
   walked = walk (length text) [] text (omega arith) (record { passing = record { passed = refl }; whole = refl })

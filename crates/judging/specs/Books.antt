@@ -1,18 +1,18 @@
 -- Which texts are accepted, said of the whole text at once; and what a refusal says.
-use Prim.Native.Nat.{ℕ, _*_, _≤_, _<_}
+use Prim.Native.Nat.{ℕ, _≤_, _<_}
 use mathlib.Core.Path.{_≡_}
-use mathlib.Core.Bool.{Bool, true, false, _&&_}
+use mathlib.Core.Bool.{Bool, true, false, _&&_, _||_}
 use mathlib.Core.List.{List, [], _∷_, _++_}
 use lib.ListN.{length}
 use Rattle.wellfounded.specs.Lists.{all}
 use Rattle.tables.specs.declared.Fault.{Fault}
 use Rattle.tables.specs.declared.Fault.the-variants.{Malformed, OutsideLimits, OutOfOrder}
-use Rattle.tables.specs.Limits.{maxAtoms, maxRuleRows, maxClauseRows, maxLiterals, maxLoadRows, maxTerms}
-use Rattle.tables.specs.Rows.{ruleWidth, clauseWidth}
-use Rattle.tables.specs.Loads.{loadWidth}
-use Rattle.format.specs.Forms.{Form, atomsForm, ruleForm, clauseForm, loadForm, openForm, claimForm, lineEnd, render, renderAll}
+use Rattle.format.specs.declared.kinds.Kind.the-variants.{Atoms, Rule, Clause, Load, Open, Claim}
+use Rattle.format.specs.Forms.{Form, lineEnd, render, renderAll}
+use Rattle.format.specs.Views.{ofKind}
 use Rattle.judging.specs.declared.reached.Reached.{Reached}
 use Rattle.judging.specs.declared.reached.Space.{Space}
+use Rattle.judging.specs.LentTables.{Table, fullSize, roomIn}
 use Rattle.judging.specs.States.{openStood, start, after, countsWithin, fits}
 use Rattle.judging.specs.Judging.{numbersWithin, withinLimits, partsInOrder, inOrder, stop, judgeForm, maxBytes}
 
@@ -21,54 +21,26 @@ unfoldable pub afterAll : Reached → List Form → Reached
 afterAll s [] = s
 afterAll s (f ∷ fs) = afterAll (after s f) fs
 
--- Whether a form is a rule, a clause, a load line, or one of the two that tell a state.
-unfoldable pub isRule : Form → Bool
-isRule (atomsForm n) = false
-isRule (ruleForm h ls) = true
-isRule (clauseForm ls) = false
-isRule (loadForm lo hi ts) = false
-isRule (openForm atoms) = false
-isRule (claimForm ps) = false
-
-unfoldable pub isClause : Form → Bool
-isClause (atomsForm n) = false
-isClause (ruleForm h ls) = false
-isClause (clauseForm ls) = true
-isClause (loadForm lo hi ts) = false
-isClause (openForm atoms) = false
-isClause (claimForm ps) = false
-
-unfoldable pub isLoad : Form → Bool
-isLoad (atomsForm n) = false
-isLoad (ruleForm h ls) = false
-isLoad (clauseForm ls) = false
-isLoad (loadForm lo hi ts) = true
-isLoad (openForm atoms) = false
-isLoad (claimForm ps) = false
-
+-- Whether a form tells a state.
 unfoldable pub isState : Form → Bool
-isState (atomsForm n) = false
-isState (ruleForm h ls) = false
-isState (clauseForm ls) = false
-isState (loadForm lo hi ts) = false
-isState (openForm atoms) = true
-isState (claimForm ps) = true
+isState f = ofKind Open f || ofKind Claim f
 
 -- The sequence of a book: its atoms, then rules, clauses and load lines, any number of each, and one state form at the end.
 pub record InSequence (fs : List Form) : Type 0 where
-  pub atoms : ℕ
+  pub atoms : Form
   pub rules : List Form
   pub clauses : List Form
   pub loads : List Form
   pub state : Form
-  pub areRules : all isRule rules ≡ true
-  pub areClauses : all isClause clauses ≡ true
-  pub areLoads : all isLoad loads ≡ true
+  pub areAtoms : ofKind Atoms atoms ≡ true
+  pub areRules : all (ofKind Rule) rules ≡ true
+  pub areClauses : all (ofKind Clause) clauses ≡ true
+  pub areLoads : all (ofKind Load) loads ≡ true
   pub tellsState : isState state ≡ true
-  pub whole : fs ≡ atomsForm atoms ∷ (rules ++ (clauses ++ (loads ++ (state ∷ []))))
+  pub whole : fs ≡ atoms ∷ (rules ++ (clauses ++ (loads ++ (state ∷ []))))
 
--- Forms that are a book which the lent tables hold. Of the state at the end, the tests of numbers and of parts look only at N and at whether an
--- atoms line stood.
+-- Forms that are a book which the lent tables hold. Numbers and parts are tested in the state that is reached at the end; of it these
+-- tests look only at N and at whether an atoms line stood.
 pub record IsBook (space : Space) (fs : List Form) : Type 0 where
   pub sequence : InSequence fs
   -- Every number is within its limit, and open atoms lie below N.
@@ -101,7 +73,7 @@ pub record PassesUpTo (space : Space) (before : List Form) : Type 0 where
 -- A text is refused in four ways, each with its fault and its position. It may be too long.
 pub record TooLong (text : List ℕ) (fault : Fault) (at : ℕ) : Type 0 where
   pub long : maxBytes < length text
-  pub told : fault ≡ OutsideLimits
+  pub faultIs : fault ≡ OutsideLimits
   pub position : at ≡ 0
 
 -- After forms that pass there may be bytes that begin with no form's line.
@@ -113,7 +85,7 @@ pub record NoForm (space : Space) (text : List ℕ) (fault : Fault) (at : ℕ) :
   pub whole : text ≡ renderAll before ++ rest
   pub some : 0 < length rest
   pub unread : (f : Form) (later : List ℕ) → rest ≡ render f ++ (lineEnd ∷ later) → ⊥
-  pub told : fault ≡ Malformed
+  pub faultIs : fault ≡ Malformed
   pub position : at ≡ length (renderAll before)
 
 -- After forms that pass there may be one that does not.
@@ -134,7 +106,7 @@ pub record NoStateForm (space : Space) (text : List ℕ) (fault : Fault) (at : �
   pub passing : PassesUpTo space forms
   pub whole : text ≡ renderAll forms
   pub missing : afterAll start forms .phase < openStood
-  pub told : fault ≡ OutOfOrder
+  pub faultIs : fault ≡ OutOfOrder
   pub position : at ≡ length text
 
 -- How a text is refused, by the first thing in it that is.
@@ -159,11 +131,4 @@ pub record NoRoom (space : Space) (text : List ℕ) (at : ℕ) : Type 0 where
 
 -- Lent tables that hold every book.
 pub record FullSpace (space : Space) : Type 0 where
-  pub rules : maxRuleRows * ruleWidth ≤ space .rules
-  pub literals : maxLiterals ≤ space .literals
-  pub clauses : maxClauseRows * clauseWidth ≤ space .clauses
-  pub loads : maxLoadRows * loadWidth ≤ space .loads
-  pub loadLiterals : maxTerms ≤ space .«load_literals»
-  pub minutes : maxTerms ≤ space .minutes
-  pub values : maxAtoms ≤ space .values
-  pub levels : maxAtoms ≤ space .levels
+  pub each : (table : Table) → fullSize table ≤ roomIn space table

@@ -8,16 +8,17 @@ use lib.IntN.{ℤ, natAbs}
 use Rattle.wellfounded.specs.Lists.{all}
 use Rattle.tables.specs.declared.Fault.{Fault}
 use Rattle.tables.specs.declared.Fault.the-variants.{Malformed, OutsideLimits, OutOfOrder, NoSpace}
-use Rattle.tables.specs.Limits.{maxAtoms, maxMinutes, maxBound}
+use Rattle.tables.specs.Limits.{maxAtoms, maxMinutes, maxBound, maxValue, maxLevel}
 use Rattle.format.specs.declared.kinds.Kind.{Kind}
 use Rattle.format.specs.declared.kinds.Kind.the-variants.{Atoms, Rule, Clause, Load, Open, Claim, Unknown}
-use Rattle.format.specs.Forms.{LiteralText, TermText, PairText, Form, atomsForm, ruleForm, clauseForm, loadForm, openForm, claimForm, lineEnd}
+use Rattle.format.specs.Forms.{LiteralText, TermText, PairText, Form, lineEnd}
+use Rattle.format.specs.Views.{viewOf, kindIn, ofKind}
 use Rattle.format.specs.Parse.{Reading, got, refused, parse}
 use Rattle.judging.specs.declared.reached.Reached.{Reached}
 use Rattle.judging.specs.declared.reached.Space.{Space}
 use Rattle.judging.specs.declared.reached.Judged.{Judged}
 use Rattle.judging.specs.declared.reached.Judged.the-variants.{Passed, Failed}
-use Rattle.judging.specs.States.{nothingYet, inRules, inClauses, inLoads, openStood, start, kindIn, after, countsWithin, fits}
+use Rattle.judging.specs.States.{nothingYet, inRules, inClauses, inLoads, openStood, start, after, countsWithin, fits}
 
 -- 2: numbers and counts within their limits. Atoms of heads and literals are judged against the largest book, not against N.
 unfoldable pub literalWithin : LiteralText → Bool
@@ -27,7 +28,7 @@ unfoldable pub termWithin : TermText → Bool
 termWithin t = leb (natAbs (t .minutes)) maxMinutes && literalWithin (t .literal)
 
 unfoldable pub pairWithin : PairText → Bool
-pairWithin p = leb (p .value) 255 && leb (p .level) 65535
+pairWithin p = leb (p .value) maxValue && leb (p .level) maxLevel
 
 unfoldable pub boundWithin : ℤ → Bool
 boundWithin bound = leb (natAbs bound) maxBound
@@ -36,13 +37,13 @@ boundWithin bound = leb (natAbs bound) maxBound
 unfoldable pub atomBound : Reached → ℕ
 atomBound s = cond (eqb (s .phase) nothingYet) maxAtoms (s .size)
 
+-- Every number of a form, and the number of pairs of a claim. What a form does not have is 0 or empty and so within every limit.
 unfoldable pub numbersWithin : Reached → Form → Bool
-numbersWithin s (atomsForm n) = leb n maxAtoms
-numbersWithin s (ruleForm h ls) = ltb h maxAtoms && all literalWithin ls
-numbersWithin s (clauseForm ls) = all literalWithin ls
-numbersWithin s (loadForm lo hi ts) = (boundWithin lo && boundWithin hi) && all termWithin ts
-numbersWithin s (openForm atoms) = all (λ atom. ltb atom (atomBound s)) atoms
-numbersWithin s (claimForm ps) = all pairWithin ps && leb (length ps) maxAtoms
+numbersWithin s f =
+    let v = viewOf f in
+    leb (v .size) maxAtoms && all (λ atom. ltb atom (atomBound s)) (v .atoms) && ltb (v .head) maxAtoms && boundWithin (v .low)
+    && boundWithin (v .high) && all literalWithin (v .literals) && all termWithin (v .terms) && all pairWithin (v .pairs)
+    && leb (length (v .pairs)) maxAtoms
 
 unfoldable pub withinLimits : Reached → Form → Bool
 withinLimits s f = numbersWithin s f && countsWithin (after s f)
@@ -65,12 +66,7 @@ risesFrom floor [] = true
 risesFrom floor (a ∷ atoms) = leb floor a && risesFrom (suc a) atoms
 
 unfoldable pub partsInOrder : Reached → Form → Bool
-partsInOrder s (atomsForm n) = true
-partsInOrder s (ruleForm h ls) = true
-partsInOrder s (clauseForm ls) = true
-partsInOrder s (loadForm lo hi ts) = true
-partsInOrder s (openForm atoms) = risesFrom 0 atoms
-partsInOrder s (claimForm ps) = eqb (length ps) (s .size)
+partsInOrder s f = risesFrom 0 (viewOf f .atoms) && cond (ofKind Claim f) (eqb (length (viewOf f .pairs)) (s .size)) true
 
 unfoldable pub inOrder : Reached → Form → Bool
 inOrder s f = mayFollow (kindIn f) (s .phase) && partsInOrder s f
@@ -83,7 +79,8 @@ pub data Step : Type 0 where
 -- A form is refused for its limits before its order, and for its order before the space of the lent tables.
 unfoldable pub judgeForm : Space → Reached → Form → Step
 judgeForm space s f =
-    cond (withinLimits s f) (cond (inOrder s f) (cond (fits space (after s f)) (on (after s f)) (stop NoSpace)) (stop OutOfOrder)) (stop OutsideLimits)
+    let then = after s f in
+    cond (withinLimits s f) (cond (inOrder s f) (cond (fits space then) (on then) (stop NoSpace)) (stop OutOfOrder)) (stop OutsideLimits)
 
 -- The lines of a text; what stands after the last line end is a line that is not ended.
 pub record LineText : Type 0 where
@@ -109,7 +106,8 @@ judgeReading space s refused = stop Malformed
 unfoldable pub judgeLine : Space → Reached → LineText → Step
 judgeLine space s line = judgeReading space s (formIn s line)
 
--- The lines in turn: the first that is refused has its first byte's offset as position; a form that is missing after all lines, the text's length.
+-- The lines in turn: the first that is refused has its first byte's offset as position; a form that is missing after all lines, the text's
+-- length.
 unfoldable pub continued : ℕ → Step → (Reached → Judged) → Judged
 continued at (on s) more = more s
 continued at (stop fault) more = Failed fault at

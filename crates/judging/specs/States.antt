@@ -1,6 +1,6 @@
 -- The state that the lines read so far have reached, and how a form moves it on.
 use Prim.Native.Nat.{ℕ, _+_, _*_}
-use mathlib.Core.Bool.{Bool, _&&_}
+use mathlib.Core.Bool.{Bool, cond, _&&_}
 use lib.Dec.{leb}
 use lib.ListN.{length}
 use Rattle.tables.specs.Limits.{maxRuleRows, maxClauseRows, maxLiterals, maxLoadRows, maxTerms}
@@ -8,11 +8,14 @@ use Rattle.tables.specs.Rows.{ruleWidth, clauseWidth}
 use Rattle.tables.specs.Loads.{loadWidth}
 use Rattle.format.specs.declared.kinds.Kind.{Kind}
 use Rattle.format.specs.declared.kinds.Kind.the-variants.{Atoms, Rule, Clause, Load, Open, Claim, Unknown}
-use Rattle.format.specs.Forms.{Form, atomsForm, ruleForm, clauseForm, loadForm, openForm, claimForm}
+use Rattle.format.specs.Forms.{Form}
+use Rattle.format.specs.Views.{viewOf, kindIn, sameKind}
 use Rattle.judging.specs.declared.reached.Reached.{Reached}
 use Rattle.judging.specs.declared.reached.Space.{Space}
+use Rattle.judging.specs.LentTables.{Table, Rules, Literals, Clauses, Loads, LoadLiterals, Minutes, Values, Levels, everyTable, roomIn}
 
--- The phases of a text: nothing was read yet; rules, clauses or load lines were read last; an open form or a claim stood.
+-- The phases of a text: nothing was read yet; the atoms form or a rule was read last, or a clause, or a load line; an open form or a
+-- claim stood.
 abbrev pub nothingYet : ℕ
 nothingYet = 0
 
@@ -31,114 +34,36 @@ openStood = 4
 abbrev pub claimStood : ℕ
 claimStood = 5
 
--- The phase, the number of atoms, and the entries counted for each table. Before the first line all are 0.
+-- The phase, the number of atoms, and the entries counted for each table that grows from line to line. Before the first line all are 0.
 unfoldable pub start : Reached
-start = record { phase = nothingYet; size = 0; rules = 0; literals = 0; clauses = 0; loads = 0; terms = 0; values = 0; levels = 0 }
+start = record { phase = nothingYet; size = 0; rules = 0; literals = 0; clauses = 0; loads = 0; terms = 0 }
 
--- What the count of a form's parts adds to the state; `atoms` is the number of atoms that an atoms form names.
-unfoldable pub added : Reached → Kind → ℕ → ℕ → Reached
-added s Atoms atoms parts =
-    record {
-      phase = inRules;
-      size = atoms;
-      rules = s .rules;
-      literals = s .literals;
-      clauses = s .clauses;
-      loads = s .loads;
-      terms = s .terms;
-      values = s .values;
-      levels = s .levels;
-    }
-added s Rule atoms parts =
-    record {
-      phase = inRules;
-      size = s .size;
-      rules = s .rules + ruleWidth;
-      literals = s .literals + parts;
-      clauses = s .clauses;
-      loads = s .loads;
-      terms = s .terms;
-      values = s .values;
-      levels = s .levels;
-    }
-added s Clause atoms parts =
-    record {
-      phase = inClauses;
-      size = s .size;
-      rules = s .rules;
-      literals = s .literals + parts;
-      clauses = s .clauses + clauseWidth;
-      loads = s .loads;
-      terms = s .terms;
-      values = s .values;
-      levels = s .levels;
-    }
-added s Load atoms parts =
-    record {
-      phase = inLoads;
-      size = s .size;
-      rules = s .rules;
-      literals = s .literals;
-      clauses = s .clauses;
-      loads = s .loads + loadWidth;
-      terms = s .terms + parts;
-      values = s .values;
-      levels = s .levels;
-    }
-added s Open atoms parts =
-    record {
-      phase = openStood;
-      size = s .size;
-      rules = s .rules;
-      literals = s .literals;
-      clauses = s .clauses;
-      loads = s .loads;
-      terms = s .terms;
-      values = s .size;
-      levels = s .levels;
-    }
-added s Claim atoms parts =
-    record {
-      phase = claimStood;
-      size = s .size;
-      rules = s .rules;
-      literals = s .literals;
-      clauses = s .clauses;
-      loads = s .loads;
-      terms = s .terms;
-      values = s .size;
-      levels = s .size;
-    }
-added s Unknown atoms parts = s
+-- The phase that a form of each kind leaves.
+unfoldable pub phaseAfter : Kind → ℕ
+phaseAfter Atoms = inRules
+phaseAfter Rule = inRules
+phaseAfter Clause = inClauses
+phaseAfter Load = inLoads
+phaseAfter Open = openStood
+phaseAfter Claim = claimStood
+phaseAfter Unknown = nothingYet
 
--- A form's kind, the number of atoms that it names, and how many parts it lists.
-unfoldable pub kindIn : Form → Kind
-kindIn (atomsForm n) = Atoms
-kindIn (ruleForm h ls) = Rule
-kindIn (clauseForm ls) = Clause
-kindIn (loadForm lo hi ts) = Load
-kindIn (openForm atoms) = Open
-kindIn (claimForm ps) = Claim
+-- The state after a form of some kind: an atoms form tells the number of atoms, rules, clauses and load lines add a row each, and the
+-- literals and terms that a form lists are counted too.
+unfoldable pub advanced : Reached → Kind → ℕ → ℕ → ℕ → Reached
+advanced s kind atoms literals terms =
+    record {
+      phase = phaseAfter kind;
+      size = cond (sameKind kind Atoms) atoms (s .size);
+      rules = s .rules + cond (sameKind kind Rule) ruleWidth 0;
+      literals = s .literals + literals;
+      clauses = s .clauses + cond (sameKind kind Clause) clauseWidth 0;
+      loads = s .loads + cond (sameKind kind Load) loadWidth 0;
+      terms = s .terms + terms;
+    }
 
-unfoldable pub sizeIn : Form → ℕ
-sizeIn (atomsForm n) = n
-sizeIn (ruleForm h ls) = 0
-sizeIn (clauseForm ls) = 0
-sizeIn (loadForm lo hi ts) = 0
-sizeIn (openForm atoms) = 0
-sizeIn (claimForm ps) = 0
-
-unfoldable pub partsIn : Form → ℕ
-partsIn (atomsForm n) = 0
-partsIn (ruleForm h ls) = length ls
-partsIn (clauseForm ls) = length ls
-partsIn (loadForm lo hi ts) = length ts
-partsIn (openForm atoms) = length atoms
-partsIn (claimForm ps) = length ps
-
--- The state after a form.
 unfoldable pub after : Reached → Form → Reached
-after s f = added s (kindIn f) (sizeIn f) (partsIn f)
+after s f = advanced s (kindIn f) (viewOf f .size) (length (viewOf f .literals)) (length (viewOf f .terms))
 
 -- Rows, literals and terms are within the limits of a book.
 unfoldable pub countsWithin : Reached → Bool
@@ -146,8 +71,24 @@ countsWithin s =
     leb (s .rules) (maxRuleRows * ruleWidth) && leb (s .literals) maxLiterals && leb (s .clauses) (maxClauseRows * clauseWidth)
     && leb (s .loads) (maxLoadRows * loadWidth) && leb (s .terms) maxTerms
 
--- Each lent table has as many entries as are counted for it; load literals and minutes both hold the terms.
+-- Values are counted once a state form stood, levels once a claim did: one for each atom.
+unfoldable pub valuesCounted : Reached → ℕ
+valuesCounted s = cond (leb openStood (s .phase)) (s .size) 0
+
+unfoldable pub levelsCounted : Reached → ℕ
+levelsCounted s = cond (leb claimStood (s .phase)) (s .size) 0
+
+-- The entries counted for each table; load literals and minutes both hold the terms.
+unfoldable pub countIn : Reached → Table → ℕ
+countIn s Rules = s .rules
+countIn s Literals = s .literals
+countIn s Clauses = s .clauses
+countIn s Loads = s .loads
+countIn s LoadLiterals = s .terms
+countIn s Minutes = s .terms
+countIn s Values = valuesCounted s
+countIn s Levels = levelsCounted s
+
+-- Each lent table has room for the entries that are counted for it.
 unfoldable pub fits : Space → Reached → Bool
-fits space s =
-    leb (s .rules) (space .rules) && leb (s .literals) (space .literals) && leb (s .clauses) (space .clauses) && leb (s .loads) (space .loads)
-    && leb (s .terms) (space .«load_literals») && leb (s .terms) (space .minutes) && leb (s .values) (space .values) && leb (s .levels) (space .levels)
+fits space s = everyTable (λ table. leb (countIn s table) (roomIn space table))

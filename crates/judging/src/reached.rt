@@ -2,9 +2,9 @@
 ghost use mathlib.Core.Path.{_≡_};
 ghost use mathlib.Core.Bool.{true};
 ghost use Prim.Native.Nat.{_≤_};
-ghost use Rattle.judging.specs.States.{start, added, countsWithin, fits};
-ghost use Rattle.judging.specs.Judging.{between, mayFollow};
-ghost use Rattle.judging.specs.Shapes.{orderOf, judgeShape, moved};
+ghost use Rattle.judging.specs.States.{start, countsWithin, valuesCounted, levelsCounted, fits};
+ghost use Rattle.judging.specs.Judging.{between, mayFollow, maxBytes};
+ghost use Rattle.judging.specs.internal.Shapes.{added, orderOf, judgeShape, asMove};
 use format::kinds::Kind;
 use tables::Fault;
 use tables::load_rows::LOAD_WIDTH;
@@ -29,7 +29,7 @@ pub const OPEN_STOOD: usize = 4;
 
 pub const CLAIM_STOOD: usize = 5;
 
-// The phase of the text, the number of atoms, and the entries counted for each table.
+// The phase of the text, the number of atoms, and the entries counted for each table that grows from line to line.
 pub struct Reached {
     pub phase: usize,
     pub size: usize,
@@ -38,8 +38,6 @@ pub struct Reached {
     pub clauses: usize,
     pub loads: usize,
     pub terms: usize,
-    pub values: usize,
-    pub levels: usize,
 }
 
 // How many entries each lent table has.
@@ -88,14 +86,12 @@ pub fn start() -> Reached
         clauses: 0,
         loads: 0,
         terms: 0,
-        values: 0,
-        levels: 0,
     }
 }
 
 // The state after a form of some shape.
 fn after(reached: Reached, kind: Kind, size: usize, parts: usize) -> Reached
-    requires { ⌜ (countsWithin reached ≡ true) × (parts ≤ 65535) ⌝ }
+    requires { ⌜ (countsWithin reached ≡ true) × (parts ≤ maxBytes) ⌝ }
     ensures { λ r. ⌜ r ≡ added reached kind size parts ⌝ }
 {
     let mut then = reached;
@@ -121,14 +117,13 @@ fn after(reached: Reached, kind: Kind, size: usize, parts: usize) -> Reached
         }
         Kind::Open => {
             then.phase = OPEN_STOOD;
-            then.values = reached.size;
         }
         Kind::Claim => {
             then.phase = CLAIM_STOOD;
-            then.values = reached.size;
-            then.levels = reached.size;
         }
-        Kind::Unknown => {}
+        Kind::Unknown => {
+            then.phase = NOTHING_YET;
+        }
     }
     then
 }
@@ -144,6 +139,28 @@ fn counts_within(reached: Reached) -> bool
         & (reached.terms <= MAX_TERMS)
 }
 
+// How many values are counted: one for each atom once a state form stood.
+fn values_counted(reached: Reached) -> usize
+    ensures { λ r. ⌜ r ≡ valuesCounted reached ⌝ }
+{
+    if OPEN_STOOD <= reached.phase {
+        reached.size
+    } else {
+        0
+    }
+}
+
+// How many levels are counted: one for each atom once a claim stood.
+fn levels_counted(reached: Reached) -> usize
+    ensures { λ r. ⌜ r ≡ levelsCounted reached ⌝ }
+{
+    if CLAIM_STOOD <= reached.phase {
+        reached.size
+    } else {
+        0
+    }
+}
+
 // Whether each lent table has as many entries as are counted for it.
 fn fits(space: Space, reached: Reached) -> bool
     ensures { λ r. ⌜ r ≡ fits space reached ⌝ }
@@ -154,8 +171,8 @@ fn fits(space: Space, reached: Reached) -> bool
         & (reached.loads <= space.loads)
         & (reached.terms <= space.load_literals)
         & (reached.terms <= space.minutes)
-        & (reached.values <= space.values)
-        & (reached.levels <= space.levels)
+        & (values_counted(reached) <= space.values)
+        & (levels_counted(reached) <= space.levels)
 }
 
 // Whether a phase is among those in which a kind of form may follow.
@@ -185,16 +202,15 @@ fn parts_in_order(reached: Reached, kind: Kind, parts: usize, rising: bool) -> b
     ensures { λ r. ⌜ r ≡ orderOf reached kind parts rising ⌝ }
 {
     match kind {
-        Kind::Open => rising,
-        Kind::Claim => parts == reached.size,
-        _ => true,
+        Kind::Claim => rising & (parts == reached.size),
+        _ => rising,
     }
 }
 
 // A form judged in the state reached so far: its limits first, then its order, then the space of the lent tables.
 pub fn judge_shape(space: Space, reached: Reached, shape: Shape, next: usize) -> Move
-    requires { ⌜ (countsWithin reached ≡ true) × (shape .parts ≤ 65535) ⌝ }
-    ensures { λ r. ⌜ r ≡ moved next (judgeShape space reached shape) ⌝ }
+    requires { ⌜ (countsWithin reached ≡ true) × (shape .parts ≤ maxBytes) ⌝ }
+    ensures { λ r. ⌜ r ≡ asMove next (judgeShape space reached shape) ⌝ }
 {
     let kind = shape.kind;
     let then = after(reached, kind, shape.size, shape.parts);

@@ -1,2 +1,2 @@
 -- The walk over the lines of a text.
-pub mod Walks
+pub mod internal

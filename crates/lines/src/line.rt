@@ -1,4 +1,4 @@
-// The form of a line: the word at its start tells how it is read, and a byte ends it.
+// A line of a text: the word at its start tells how its form is read, a byte ends it, and it is judged.
 use format::kinds::Kind;
 use format::kinds::kind_at;
 use format::words::byte_at;
@@ -9,16 +9,22 @@ use forms::read_clause_form;
 use forms::read_load_form;
 use forms::read_open_form;
 use forms::read_rule_form;
+use judging::reached::Move;
 use judging::reached::Reached;
+use judging::reached::Space;
+use judging::reached::judge_shape;
+use tables::Fault;
 ghost use mathlib.Core.Path.{_≡_};
 ghost use lib.ListN.{drop};
-ghost use Rattle.format.specs.Parse.{readForm, readLine};
-ghost use Rattle.forms.specs.Entries.{entriesOf, store, lentTables};
-ghost use Rattle.forms.specs.Readers.{Forms};
-ghost use Rattle.lines.specs.Walks.{Ready};
+ghost use Rattle.format.specs.Parse.{readForm};
+ghost use Rattle.forms.specs.Contents.{lentTables};
+ghost use Rattle.forms.specs.Entries.{entriesOf};
+ghost use Rattle.forms.specs.internal.Stores.{store};
+ghost use Rattle.forms.specs.internal.Readers.{Forms};
+ghost use Rattle.lines.specs.internal.Walks.{Ready, Judgeable, lineMove};
 
 // The form at an offset: its word tells the kind.
-fn read_form(
+pub fn read_form(
     text: &[u8],
     at: usize,
     reached: Reached,
@@ -50,46 +56,16 @@ fn read_form(
     }
 }
 
-// The form with the byte that ends its line.
-pub fn read_line(
-    text: &[u8],
-    at: usize,
-    reached: Reached,
-    rules: &mut [u16],
-    literals: &mut [u16],
-    clauses: &mut [u16],
-    loads: &mut [i32],
-    load_literals: &mut [u16],
-    minutes: &mut [i16],
-    values: &mut [u8],
-    levels: &mut [u16],
-) -> Line
-    requires { ⌜ Ready (now text) at reached ⌝ }
-    ensures { λ r. ⌜ Forms reached (now (text .entry)) (readLine (drop at (now (text .entry)))) r
-        (λ f. lentTables (now (rules .exit)) (now (literals .exit)) (now (clauses .exit)) (now (loads .exit)) (now («load_literals» .exit))
-        (now (minutes .exit)) (now (values .exit)) (now (levels .exit))
-        ≡ store reached (entriesOf reached f)
-        (lentTables (now (rules .entry)) (now (literals .entry)) (now (clauses .entry)) (now (loads .entry)) (now («load_literals» .entry))
-        (now (minutes .entry)) (now (values .entry)) (now (levels .entry)))) ⌝ }
+// What a line comes to in the state reached so far: its form with the byte that ends it, judged.
+pub fn judge_line(text: &[u8], line: Line, space: Space, reached: Reached) -> Move
+    requires { ⌜ Judgeable reached line ⌝ }
+    ensures { λ r. ⌜ r ≡ lineMove space reached (now (text .entry)) line ⌝ }
 {
-    let line = read_form(
-        text,
-        at,
-        reached,
-        rules,
-        literals,
-        clauses,
-        loads,
-        load_literals,
-        minutes,
-        values,
-        levels,
-    );
     let Line::Formed(shape, next) = line else {
-        return Line::NoForm;
+        return Move::Stop(Fault::Malformed);
     };
     if !byte_at(text, next, b'\n') {
-        return Line::NoForm;
+        return Move::Stop(Fault::Malformed);
     }
-    Line::Formed(shape, next + 1)
+    judge_shape(space, reached, shape, next + 1)
 }

@@ -9,22 +9,23 @@ use native.Mathlib.Omega.{arith}
 use lib.Dec.{leb, ltb}
 use lib.ListN.{length, set, length-append, length-set}
 use borrow.Author.Tests.{ltb-true, lt-ltb}
+use Rattle.tables.specs.Limits.{maxAtoms, maxValue}
 use Rattle.wellfounded.specs.Lists.{all}
 use Rattle.wellfounded.proofs.Tests.{first, second}
 use Rattle.format.specs.Forms.{decimal, space}
 use Rattle.format.specs.Words.{wordAt}
 use Rattle.format.specs.Parse.{readNumber}
-use Rattle.numerals.specs.Offsets.{beyondLimits, capped, numberAt}
+use Rattle.numerals.specs.internal.Offsets.{beyondLimits, capped, numberAt}
 use Rattle.numerals.specs.declared.numbers.Number.the-variants.{Read}
 use Rattle.numerals.proofs.CappedLaws.{capped-small, capped-below}
 use Rattle.numerals.proofs.SignedLaws.{number-limit}
 use Rattle.format.proofs.Pieces.{number-inverse}
 use Rattle.items.proofs.ItemLaws.{GotAt, number-got, byte-got}
 use Rattle.judging.specs.Judging.{risesFrom}
-use Rattle.judging.specs.Shapes.{cappedRise}
-use Rattle.lists.specs.Lists.{stored, marked}
+use Rattle.judging.specs.internal.Shapes.{cappedRise}
+use Rattle.lists.specs.internal.Lists.{stored, marked}
 use Rattle.lists.proofs.PartLaws.{came-start, came-turn}
-use Rattle.lists.proofs.ListLaws.{Listing, all-snoc}
+use Rattle.lists.proofs.ListLaws.{PartsRead, all-snoc}
 use Rattle.lists.proofs.StoreLaws.{stored-small}
 
 -- ── One more atom ──
@@ -55,7 +56,7 @@ rises-snoc floor (b ∷ atoms) a = rw (rises-snoc (suc b) atoms a) (sym (and-ass
 -- What every loop over parts keeps, here of atoms.
 abbrev Atoms : (text : List ℕ) (at bound : ℕ) (before : List ℕ) (next count : ℕ) (fine rise : Bool) (values : List ℕ) → Type 0
 Atoms text at bound before next count fine rise values =
-    Listing readNumber (λ (atom : ℕ). ltb atom bound) cappedRise text at next count fine rise (λ (atoms : List ℕ). values ≡ marked atoms before)
+    PartsRead readNumber (λ (atom : ℕ). ltb atom bound) cappedRise text at next count fine rise (λ (atoms : List ℕ). values ≡ marked atoms before)
 
 -- The loop has come to `next`: the atoms read so far are marked, and the next one that rises is at least `floor`.
 pub record Marking (text : List ℕ) (at bound : ℕ) (before : List ℕ) (next count : ℕ) (fine rise : Bool) (floor : ℕ) (values : List ℕ) : Type 0 where
@@ -76,7 +77,8 @@ module _ {text : List ℕ} {at bound : ℕ} {before : List ℕ} where
   module _ {next count : ℕ} {fine rise : Bool} {floor : ℕ} {values : List ℕ} (m : Marking text at bound before next count fine rise floor values) where
     -- One more atom n, which code has as `atom`.
     more :
-        {after : ℕ} {n atom : ℕ} {then : List ℕ} → bound ≤ 1024 → wordAt text next (space ∷ []) ≡ true → GotAt readNumber text (next + 1) after n →
+        {after : ℕ} {n atom : ℕ} {then : List ℕ} → bound ≤ maxAtoms → wordAt text next (space ∷ []) ≡ true →
+        GotAt readNumber text (next + 1) after n →
         atom ≡ capped n → then ≡ set values atom 1 →
         Marking text at bound before after (count + 1) (fine && ltb atom bound) (rise && leb floor atom) (atom + 1) then
     unfolding cappedRise
@@ -102,12 +104,13 @@ module _ {text : List ℕ} {at bound : ℕ} {before : List ℕ} where
         }
 
     pub marking-turn :
-        {after atom : ℕ} {then : List ℕ} → bound ≤ 1024 → wordAt text next (space ∷ []) ≡ true → numberAt text (next + 1) ≡ Read atom after →
-        then ≡ stored (ltb 1 256) values atom 1 →
+        {after atom : ℕ} {then : List ℕ} → bound ≤ maxAtoms → wordAt text next (space ∷ []) ≡ true →
+        numberAt text (next + 1) ≡ Read atom after →
+        then ≡ stored (ltb 1 (suc maxValue)) values atom 1 →
         Marking text at bound before after (count + 1) (fine && ltb atom bound) (rise && leb floor atom) (atom + 1) then
     marking-turn {after} {atom} l h e s =
         let number = number-got {at = next + 1} (omega (arith, byte-got text next space h .1)) e in
-        more l h (number .2) (number .1) (s ∙ sym (stored-small values atom 1 (lt-ltb 1 256 (omega arith))))
+        more l h (number .2) (number .1) (s ∙ sym (stored-small values atom 1 (lt-ltb 1 (suc maxValue) (omega arith))))
 
 -- The value that code has of an atom is small, and the offset after it lies on in the text.
 pub atom-room :

@@ -32,7 +32,8 @@ module _ {A : Type 0} where
   prefixed-none (got ys rest) = refl
   prefixed-none refused = refl
 
-  prefixed-one : (xs : List A) (x : A) (r : Reading (List A)) → prefixed (xs ++ (x ∷ [])) r ≡ prefixed xs (andThen r (λ ys end. got (x ∷ ys) end))
+  prefixed-one :
+      (xs : List A) (x : A) (r : Reading (List A)) → prefixed (xs ++ (x ∷ [])) r ≡ prefixed xs (andThen r (λ ys end. got (x ∷ ys) end))
   unfolding andThen prefixed
   prefixed-one xs x (got ys rest) = ap (λ (zs : List A). got zs rest) (append-assoc xs (x ∷ []) ys)
   prefixed-one xs x refused = refl
@@ -46,7 +47,9 @@ unfolding wordAt
 byte-cons text at b h = started (b ∷ []) (drop at text) h ∙ ap (λ (bs : List ℕ). b ∷ bs) (drop-drop 1 at text)
 
 module _ {A : Type 0} (bytes : A → List ℕ) (item : List ℕ → Reading A) (inverse : Inverse bytes item) {text : List ℕ} {at next : ℕ} {xs : List A} (came : Came item text at next xs) where
-  pub came-turn : {after : ℕ} {x : A} → wordAt text next (space ∷ []) ≡ true → GotAt item text (next + 1) after x → Came item text at after (xs ++ (x ∷ []))
+  pub came-turn :
+      {after : ℕ} {x : A} → wordAt text next (space ∷ []) ≡ true → GotAt item text (next + 1) after x →
+      Came item text at after (xs ++ (x ∷ []))
   came-turn {after} {x} h g =
       record {
         inside = g .inside;

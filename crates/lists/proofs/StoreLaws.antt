@@ -14,14 +14,15 @@ use mir.Syntax.{w16, w32}
 use mir.Val.{SFits, toZ, ofZ}
 use mir.Facts.{toZ-ofZ, toZ-pos}
 use borrow.Author.Tests.{lt-ltb, leb-true}
-use Rattle.tables.specs.Limits.{maxMinutes}
-use Rattle.lists.specs.Lists.{stored}
+use Rattle.tables.specs.Limits.{maxMinutes, maxValue}
+use Rattle.lists.specs.internal.Lists.{stored}
 
 -- ── One entry ──
 
 module _ {A : Type 0} where
   -- An entry that fits is put at its place.
-  pub stored-small : {small : Bool} (table : List A) (place : ℕ) (entry : A) → small ≡ true → set table place entry ≡ stored small table place entry
+  pub stored-small :
+      {small : Bool} (table : List A) (place : ℕ) (entry : A) → small ≡ true → set table place entry ≡ stored small table place entry
   unfolding stored
   stored-small table place entry h = rw h
 
@@ -30,7 +31,8 @@ module _ {A : Type 0} where
   unfolding stored
   stored-large table place entry h = rw h
 
-  pub stored-beyond : (small : Bool) (table : List A) (place : ℕ) (entry : A) → length table ≤ place → table ≡ stored small table place entry
+  pub stored-beyond :
+      (small : Bool) (table : List A) (place : ℕ) (entry : A) → length table ≤ place → table ≡ stored small table place entry
   unfolding stored
   stored-beyond true table place entry h = sym (set-out table place entry h)
   stored-beyond false table place entry h = refl
@@ -45,19 +47,23 @@ minutes-small z is h = minutes-fit z (leb-true _ _ (sym is ∙ h))
 
 -- ── Rows ──
 
-put : (table after : List ℕ) (place entry : ℕ) → after ≡ stored (ltb entry 65536) table place entry → entry < 65536 → after ≡ set table place entry
+put :
+    (table after : List ℕ) (place entry : ℕ) → after ≡ stored (ltb entry 65536) table place entry → entry < 65536 →
+    after ≡ set table place entry
 put table after place entry e l = e ∙ sym (stored-small table place entry (lt-ltb entry 65536 l))
 
 module _ (entry first second : List ℕ) (place start count : ℕ) where
   -- The stores of a clause row, one after the other.
   pub clause-row :
-      first ≡ stored (ltb start 65536) entry place start → second ≡ stored (ltb count 65536) first (place + 1) count → start < 65536 → count < 65536 →
+      first ≡ stored (ltb start 65536) entry place start → second ≡ stored (ltb count 65536) first (place + 1) count → start < 65536 →
+      count < 65536 →
       second ≡ sets entry place (start ∷ count ∷ [])
   clause-row p q ls lc = rw (put _ _ _ _ q lc, put _ _ _ _ p ls, add-one)
 
   -- Those of a rule row.
   pub rule-row :
-      (third : List ℕ) (head : ℕ) → first ≡ stored (ltb head 65536) entry place head → second ≡ stored (ltb start 65536) first (place + 1) start →
+      (third : List ℕ) (head : ℕ) → first ≡ stored (ltb head 65536) entry place head →
+      second ≡ stored (ltb start 65536) first (place + 1) start →
       third ≡ stored (ltb count 65536) second (place + 2) count → head < 65536 → start < 65536 → count < 65536 →
       third ≡ sets entry place (head ∷ start ∷ count ∷ [])
   rule-row third head p q r lh ls lc =
@@ -67,7 +73,8 @@ module _ (entry first second : List ℕ) (place start count : ℕ) where
 -- Those of a load row. Code reads its numbers back from their bits.
 pub load-row :
     (entry first second third fourth : List ℤ) (place start count : ℕ) {low high : ℤ} → first ≡ set entry place (toZ w32 (ofZ w32 low)) →
-    second ≡ set first (place + 1) (toZ w32 (ofZ w32 high)) → third ≡ set second (place + 2) (toZ w32 start) → fourth ≡ set third (place + 3) (toZ w32 count) →
+    second ≡ set first (place + 1) (toZ w32 (ofZ w32 high)) → third ≡ set second (place + 2) (toZ w32 start) →
+    fourth ≡ set third (place + 3) (toZ w32 count) →
     SFits w32 low → SFits w32 high → start < 65536 → count < 65536 → fourth ≡ sets entry place (low ∷ high ∷ pos start ∷ pos count ∷ [])
 load-row entry first second third fourth place start count p q r s fl fh ls lc =
     let e : place + 2 ≡ suc (suc place) = omega arith in
@@ -87,7 +94,8 @@ module _ (before : List ℕ) (count : ℕ) where
 
 module _ {before : List ℕ} {count : ℕ} {values : List ℕ} {place : ℕ} where
   pub cleared-turn :
-      {after : List ℕ} → place < count → after ≡ stored (ltb 0 256) values place 0 → Cleared before count values place → Cleared before count after (place + 1)
+      {after : List ℕ} → place < count → after ≡ stored (ltb 0 (suc maxValue)) values place 0 → Cleared before count values place →
+      Cleared before count after (place + 1)
   unfolding stored
   cleared-turn l e s =
       let more : count - place ≡ suc (count - (place + 1)) = omega arith in

@@ -1,6 +1,6 @@
 -- Laws of terms and claim pairs as the code's loops read and store them.
 -- Assumes nothing.
-use Prim.Native.Nat.{ℕ, _+_, _-_, _≤_, _<_}
+use Prim.Native.Nat.{ℕ, _+_, _-_, _≤_, _<_, suc, _*_}
 use mathlib.Core.Path.{_≡_, refl, sym, ap, _∙_}
 use mathlib.Core.Bool.{Bool, true, _&&_}
 use mathlib.Core.List.{List, [], _∷_, _++_, map}
@@ -14,21 +14,22 @@ use mir.Val.{toZ, ofZ}
 use mir.Facts.{toZ-ofZ}
 use borrow.Author.Tests.{leb-true, lt-ltb, ltb-true}
 use Rattle.wellfounded.proofs.Tests.{first, second}
-use Rattle.tables.specs.Limits.{maxMinutes}
+use Rattle.tables.specs.Limits.{maxMinutes, maxAtoms, maxValue, maxLevel}
 use Rattle.items.specs.declared.terms.Term.the-variants.{Weighed}
 use Rattle.items.specs.declared.pairs.Pair.the-variants.{Paired}
 use Rattle.format.specs.Forms.{TermText, PairText, termBytes, pairBytes, space}
 use Rattle.format.specs.Words.{wordAt}
 use Rattle.format.specs.Parse.{readTerm, readPair}
-use Rattle.numerals.specs.Offsets.{capped, clamped}
-use Rattle.items.specs.Items.{literalCode, cappedCode, termAt, pairAt}
+use Rattle.numerals.specs.internal.Offsets.{capped, clamped}
+use Rattle.items.specs.Items.{literalCode}
+use Rattle.items.specs.internal.Places.{cappedCode, termReadAt, pairAt}
 use Rattle.numerals.proofs.CappedLaws.{capped-small, capped-within, clamped-small, clamped-within, clamped-fits}
 use Rattle.format.proofs.Pieces.{term-inverse, pair-inverse}
 use Rattle.items.proofs.ItemLaws.{GotAt, byte-got, term-got, pair-got}
 use Rattle.judging.specs.Judging.{literalWithin, termWithin, pairWithin}
-use Rattle.lists.specs.Lists.{stored}
+use Rattle.lists.specs.internal.Lists.{stored}
 use Rattle.lists.proofs.StoreLaws.{stored-small}
-use Rattle.lists.proofs.ListLaws.{Listing, listing-start, listing-turn, laid-more, literal-tested, literal-whole}
+use Rattle.lists.proofs.ListLaws.{PartsRead, listing-start, listing-turn, laid-more, literal-tested, literal-whole}
 
 -- ── Terms ──
 
@@ -42,7 +43,7 @@ module _ (t : TermText) {worked : ℤ} {code : ℕ} (weighed : worked ≡ clampe
   worked-read : toZ w32 (ofZ w32 worked) ≡ clamped (t .minutes)
   worked-read = rw weighed (toZ-ofZ (clamped-fits (t .minutes)))
 
-  term-tested : {fine : Bool} → fine ≡ leb (natAbs (toZ w32 (ofZ w32 worked))) maxMinutes → (fine && ltb code 2048) ≡ termWithin t
+  term-tested : {fine : Bool} → fine ≡ leb (natAbs (toZ w32 (ofZ w32 worked))) maxMinutes → (fine && ltb code (2 * maxAtoms)) ≡ termWithin t
   unfolding termWithin
   term-tested e =
       rw (e, worked-read, clamped-within (t .minutes) maxMinutes (omega arith), coded, literal-tested (t .literal))
@@ -50,14 +51,15 @@ module _ (t : TermText) {worked : ℤ} {code : ℕ} (weighed : worked ≡ clampe
   module _ (literals₀ : List ℕ) (minutes₀ : List ℤ) {literals literals₁ : List ℕ} {minutes minutes₁ : List ℤ} (from count : ℕ) where
     term-laid :
         literals₁ ≡ stored (ltb code 65536) literals (from + count) code →
-        minutes₁ ≡ stored (leb (natAbs (toZ w32 (ofZ w32 worked))) maxMinutes) minutes (from + count) (toZ w32 (ofZ w32 worked)) → (ts : List TermText) →
+        minutes₁ ≡ stored (leb (natAbs (toZ w32 (ofZ w32 worked))) maxMinutes) minutes (from + count) (toZ w32 (ofZ w32 worked)) →
+        (ts : List TermText) →
         length ts ≡ count → termWithin t ≡ true → termsLaid literals₀ minutes₀ from literals minutes ts →
         termsLaid literals₀ minutes₀ from literals₁ minutes₁ (ts ++ (t ∷ []))
     unfolding termWithin
     term-laid l m ts n w laid =
         let inMinutes = first (leb (natAbs (t .minutes)) maxMinutes) (literalWithin (t .literal)) w in
         let inAtoms = second (leb (natAbs (t .minutes)) maxMinutes) (literalWithin (t .literal)) w in
-        let low = ltb-true (cappedCode (t .literal)) 2048 (literal-tested (t .literal) ∙ inAtoms) in
+        let low = ltb-true (cappedCode (t .literal)) (2 * maxAtoms) (literal-tested (t .literal) ∙ inAtoms) in
         let c : code ≡ literalCode (t .literal) = coded ∙ literal-whole (t .literal) inAtoms in
         let z : toZ w32 (ofZ w32 worked) ≡ t .minutes = worked-read ∙ clamped-small (t .minutes) (omega (arith, leb-true (natAbs (t .minutes)) maxMinutes inMinutes)) in
         let here : from + count ≡ from + length ts = omega arith in (
@@ -69,7 +71,7 @@ module _ (t : TermText) {worked : ℤ} {code : ℕ} (weighed : worked ≡ clampe
 
 -- The loop over terms has come to `next`.
 pub record TermsCame (text : List ℕ) (at : ℕ) (literals₀ : List ℕ) (minutes₀ : List ℤ) (from : ℕ) (literals : List ℕ) (minutes : List ℤ) (next count : ℕ) (fine : Bool) : Type 0 where
-  pub listing : Listing readTerm termWithin (λ ts. true) text at next count fine true (termsLaid literals₀ minutes₀ from literals minutes)
+  pub listing : PartsRead readTerm termWithin (λ ts. true) text at next count fine true (termsLaid literals₀ minutes₀ from literals minutes)
   pub sameLiterals : length literals ≡ length literals₀
   pub sameMinutes : length minutes ≡ length minutes₀
 
@@ -84,7 +86,7 @@ module _ {text : List ℕ} {at : ℕ} {literals₀ : List ℕ} {minutes₀ : Lis
   pub terms-count : count ≤ length text
   terms-count = let l = came .listing in omega (arith, l .counted, l .came .counted, l .came .inside)
 
-  module _ (spaced : wordAt text next (space ∷ []) ≡ true) {worked : ℤ} {code after : ℕ} (read : termAt text (next + 1) ≡ Weighed worked code after) where
+  module _ (spaced : wordAt text next (space ∷ []) ≡ true) {worked : ℤ} {code after : ℕ} (read : termReadAt text (next + 1) ≡ Weighed worked code after) where
     term-read : (t : TermText) × (worked ≡ clamped (t .minutes)) × (code ≡ cappedCode (t .literal)) × GotAt readTerm text (next + 1) after t
     term-read = let l = byte-got text next space spaced .1 in term-got (omega arith) read
 
@@ -92,10 +94,12 @@ module _ {text : List ℕ} {at : ℕ} {literals₀ : List ℕ} {minutes₀ : Lis
     terms-on = let g = term-read .3 in omega (arith, g .on, g .inside)
 
     pub terms-turn :
-        {literals₁ : List ℕ} {minutes₁ : List ℤ} {small : Bool} → literals₁ ≡ stored (ltb code 65536) literals (from + count) code → length literals₁ ≡ length literals →
-        minutes₁ ≡ stored (leb (natAbs (toZ w32 (ofZ w32 worked))) maxMinutes) minutes (from + count) (toZ w32 (ofZ w32 worked)) → length minutes₁ ≡ length minutes →
+        {literals₁ : List ℕ} {minutes₁ : List ℤ} {small : Bool} → literals₁ ≡ stored (ltb code 65536) literals (from + count) code →
+        length literals₁ ≡ length literals →
+        minutes₁ ≡ stored (leb (natAbs (toZ w32 (ofZ w32 worked))) maxMinutes) minutes (from + count) (toZ w32 (ofZ w32 worked)) →
+        length minutes₁ ≡ length minutes →
         small ≡ leb (natAbs (toZ w32 (ofZ w32 worked))) maxMinutes →
-        TermsCame text at literals₀ minutes₀ from literals₁ minutes₁ after (count + 1) (fine && (small && ltb code 2048))
+        TermsCame text at literals₀ minutes₀ from literals₁ minutes₁ after (count + 1) (fine && (small && ltb code (2 * maxAtoms)))
     terms-turn l sl m sm e =
         let r = term-read in
         record {
@@ -115,30 +119,31 @@ pairsLaid values₀ levels₀ values levels =
 
 -- Code tests a pair as its text is tested, and stores what its text says.
 module _ (p : PairText) {value level : ℕ} (valued : value ≡ capped (p .value)) (levelled : level ≡ capped (p .level)) where
-  pair-tested : (leb value 255 && leb level 65535) ≡ pairWithin p
+  pair-tested : (leb value maxValue && leb level maxLevel) ≡ pairWithin p
   unfolding pairWithin
-  pair-tested = rw (valued, levelled, capped-within (p .value) 255 (omega arith), capped-within (p .level) 65535 (omega arith))
+  pair-tested = rw (valued, levelled, capped-within (p .value) maxValue (omega arith), capped-within (p .level) maxLevel (omega arith))
 
   module _ (values₀ levels₀ : List ℕ) {values values₁ levels levels₁ : List ℕ} (count : ℕ) where
     pair-laid :
-        values₁ ≡ stored (ltb value 256) values count value → levels₁ ≡ stored (ltb level 65536) levels count level → (ps : List PairText) → length ps ≡ count →
+        values₁ ≡ stored (ltb value (suc maxValue)) values count value → levels₁ ≡ stored (ltb level 65536) levels count level →
+        (ps : List PairText) → length ps ≡ count →
         pairWithin p ≡ true → pairsLaid values₀ levels₀ values levels ps → pairsLaid values₀ levels₀ values₁ levels₁ (ps ++ (p ∷ []))
     unfolding pairWithin
     pair-laid v k ps n w laid =
-        let inValues = leb-true (p .value) 255 (first (leb (p .value) 255) (leb (p .level) 65535) w) in
-        let inLevels = leb-true (p .level) 65535 (second (leb (p .value) 255) (leb (p .level) 65535) w) in
+        let inValues = leb-true (p .value) maxValue (first (leb (p .value) maxValue) (leb (p .level) maxLevel) w) in
+        let inLevels = leb-true (p .level) maxLevel (second (leb (p .value) maxValue) (leb (p .level) maxLevel) w) in
         let x : value ≡ p .value = valued ∙ capped-small (p .value) (omega arith) in
         let y : level ≡ p .level = levelled ∙ capped-small (p .level) (omega arith) in
         let here : count ≡ 0 + length ps = omega arith in (
           laid-more (λ (q : PairText). q .value) values₀ 0 ps p here (laid .0)
-              ((rw x at v) ∙ sym (stored-small values count (p .value) (lt-ltb (p .value) 256 (omega arith)))),
+              ((rw x at v) ∙ sym (stored-small values count (p .value) (lt-ltb (p .value) (suc maxValue) (omega arith)))),
           laid-more (λ (q : PairText). q .level) levels₀ 0 ps p here (laid .1)
               ((rw y at k) ∙ sym (stored-small levels count (p .level) (lt-ltb (p .level) 65536 (omega arith)))),
         )
 
 -- The loop over pairs has come to `next`.
 pub record PairsCame (text : List ℕ) (at : ℕ) (values₀ levels₀ values levels : List ℕ) (next count : ℕ) (fine : Bool) : Type 0 where
-  pub listing : Listing readPair pairWithin (λ ps. true) text at next count fine true (pairsLaid values₀ levels₀ values levels)
+  pub listing : PartsRead readPair pairWithin (λ ps. true) text at next count fine true (pairsLaid values₀ levels₀ values levels)
   pub sameValues : length values ≡ length values₀
   pub sameLevels : length levels ≡ length levels₀
 
@@ -161,9 +166,9 @@ module _ {text : List ℕ} {at : ℕ} {values₀ levels₀ values levels : List 
     pairs-on = let g = pair-read .3 in omega (arith, g .on, g .inside)
 
     pub pairs-turn :
-        {values₁ levels₁ : List ℕ} → values₁ ≡ stored (ltb value 256) values count value → length values₁ ≡ length values →
+        {values₁ levels₁ : List ℕ} → values₁ ≡ stored (ltb value (suc maxValue)) values count value → length values₁ ≡ length values →
         levels₁ ≡ stored (ltb level 65536) levels count level → length levels₁ ≡ length levels →
-        PairsCame text at values₀ levels₀ values₁ levels₁ after (count + 1) (fine && (leb value 255 && leb level 65535))
+        PairsCame text at values₀ levels₀ values₁ levels₁ after (count + 1) (fine && (leb value maxValue && leb level maxLevel))
     pairs-turn v sv k sk =
         let r = pair-read in
         record {

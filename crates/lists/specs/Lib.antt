@@ -1,2 +1,2 @@
 -- The lists of parts in a form, as code reads and stores them.
-pub mod Lists
+pub mod internal

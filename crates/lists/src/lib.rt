@@ -12,6 +12,9 @@ use items::terms::Term;
 use items::terms::read_term;
 use numerals::numbers::Number;
 use numerals::numbers::read_number;
+use tables::sizes::MAX_ATOMS;
+use tables::sizes::MAX_LEVEL;
+use tables::sizes::MAX_VALUE;
 ghost use mathlib.Core.Path.{_≡_};
 ghost use mathlib.Core.Bool.{true};
 ghost use Prim.Native.Nat.{_≤_};
@@ -19,21 +22,18 @@ ghost use mathlib.Core.List.{map};
 ghost use lib.Dec.{ltb};
 ghost use lib.ListN.{drop};
 ghost use lib.Seq.{sets};
+ghost use Rattle.tables.specs.Limits.{maxAtoms, maxLiterals, maxTerms};
 ghost use Rattle.format.specs.Forms.{TermText, PairText};
 ghost use Rattle.format.specs.Parse.{readNumber, readLiteral, readTerm, readPair, parts};
 ghost use Rattle.items.specs.Items.{literalCode};
 ghost use Rattle.judging.specs.Judging.{literalWithin, termWithin, pairWithin};
-ghost use Rattle.judging.specs.Shapes.{cappedRise};
-ghost use Rattle.lists.specs.Lists.{Inside, Lists, marked};
+ghost use Rattle.judging.specs.internal.Shapes.{cappedRise};
+ghost use Rattle.lists.specs.internal.Lists.{Inside, Lists, marked};
 
 pub mod stores;
 
-// Codes of literals lie below twice the most atoms; a value has 8 bits and a level 16.
-const LITERAL_CODES: usize = 2048;
-
-const MAX_VALUE: usize = 255;
-
-const MAX_LEVEL: usize = 65535;
+// Codes of literals lie below twice the most atoms.
+const LITERAL_CODES: usize = 2 * MAX_ATOMS;
 
 // How many parts were listed, whether all are within their limits, whether they rise, and the offset after them; or no list.
 pub enum Parts {
@@ -44,7 +44,7 @@ pub enum Parts {
 // The literals of a rule or a clause, stored from a place on.
 pub fn read_literals(text: &[u8], at: usize, literals: &mut [u16], from: usize) -> Parts
     requires { ⌜ Inside (now text) at ⌝ }
-    requires { ⌜ from ≤ 16384 ⌝ }
+    requires { ⌜ from ≤ maxLiterals ⌝ }
     ensures { λ r. ⌜ Lists (now (text .entry)) literalWithin (λ ls. true) (parts readLiteral (drop at (now (text .entry)))) r
         (λ ls. now (literals .exit) ≡ sets (now (literals .entry)) from (map literalCode ls)) ⌝ }
 {
@@ -75,9 +75,10 @@ pub fn read_terms(
     from: usize,
 ) -> Parts
     requires { ⌜ Inside (now text) at ⌝ }
-    requires { ⌜ from ≤ 4096 ⌝ }
+    requires { ⌜ from ≤ maxTerms ⌝ }
     ensures { λ r. ⌜ Lists (now (text .entry)) termWithin (λ ts. true) (parts readTerm (drop at (now (text .entry)))) r
-        (λ ts. (now («load_literals» .exit) ≡ sets (now («load_literals» .entry)) from (map (λ (t : TermText). literalCode (t .literal)) ts))
+        (λ ts. (now («load_literals» .exit)
+        ≡ sets (now («load_literals» .entry)) from (map (λ (t : TermText). literalCode (t .literal)) ts))
         × (now (minutes .exit) ≡ sets (now (minutes .entry)) from (map (λ (t : TermText). t .minutes) ts))) ⌝ }
 {
     let mut next = at;
@@ -102,7 +103,7 @@ pub fn read_terms(
 // The atoms of an open form, each marked in the values.
 pub fn read_atoms(text: &[u8], at: usize, bound: usize, values: &mut [u8]) -> Parts
     requires { ⌜ Inside (now text) at ⌝ }
-    requires { ⌜ bound ≤ 1024 ⌝ }
+    requires { ⌜ bound ≤ maxAtoms ⌝ }
     ensures { λ r. ⌜ Lists (now (text .entry)) (λ atom. ltb atom bound) cappedRise (parts readNumber (drop at (now (text .entry)))) r
         (λ atoms. now (values .exit) ≡ marked atoms (now (values .entry))) ⌝ }
 {

@@ -1,16 +1,22 @@
 // Entries stored in lent tables, each where it has a place and fits the table's numbers.
 ghost use mathlib.Core.Path.{_≡_};
-ghost use Prim.Native.Nat.{_≤_, _<_};
+ghost use Prim.Native.Nat.{suc, _*_, _≤_, _<_};
 ghost use mathlib.Core.List.{[], _∷_};
 ghost use lib.Dec.{ltb, leb};
 ghost use lib.IntN.{natAbs, pos};
 ghost use lib.ListN.{set, replicate};
 ghost use lib.Seq.{sets};
-ghost use Rattle.tables.specs.Limits.{maxMinutes};
-ghost use Rattle.lists.specs.Lists.{stored};
+ghost use Rattle.tables.specs.Loads.{loadWidth};
+ghost use Rattle.tables.specs.Rows.{ruleWidth, clauseWidth};
+ghost use Rattle.tables.specs.Limits.{maxMinutes, maxRuleRows, maxClauseRows, maxLoadRows, maxValue};
+ghost use Rattle.lists.specs.internal.Lists.{stored};
+use tables::sizes::MAX_MINUTES;
+use tables::sizes::MAX_VALUE;
 
-// Minutes run from -1,440 to 1,440.
-const MAX_MINUTES: i32 = 1440;
+// Minutes as they are read, and how many values a byte has.
+const WIDE_MINUTES: i32 = MAX_MINUTES as i32;
+
+const VALUES: usize = MAX_VALUE + 1;
 
 // Stores an entry of 16 bits.
 pub fn store(table: &mut [u16], place: usize, entry: usize)
@@ -25,10 +31,10 @@ pub fn store(table: &mut [u16], place: usize, entry: usize)
 
 // Stores a value.
 pub fn store_value(values: &mut [u8], place: usize, value: usize)
-    ensures { λ r. ⌜ now (values .exit) ≡ stored (ltb value 256) (now (values .entry)) place value ⌝ }
+    ensures { λ r. ⌜ now (values .exit) ≡ stored (ltb value (suc maxValue)) (now (values .entry)) place value ⌝ }
 {
     if place < values.len() {
-        if value < 256 {
+        if value < VALUES {
             values[place] = value as u8;
         }
     }
@@ -38,7 +44,7 @@ pub fn store_value(values: &mut [u8], place: usize, value: usize)
 pub fn minutes_within(minutes: i32) -> bool
     ensures { λ r. ⌜ r ≡ leb (natAbs minutes) maxMinutes ⌝ }
 {
-    (-MAX_MINUTES <= minutes) & (minutes <= MAX_MINUTES)
+    (-WIDE_MINUTES <= minutes) & (minutes <= WIDE_MINUTES)
 }
 
 // Stores minutes.
@@ -63,7 +69,7 @@ pub fn store_whole(loads: &mut [i32], place: usize, entry: i32)
 
 // Stores a rule row: head, start, count.
 pub fn store_rule(rules: &mut [u16], place: usize, head: usize, start: usize, count: usize)
-    requires { ⌜ (place ≤ 6144) × (start < 65536) × (count < 65536) ⌝ }
+    requires { ⌜ (place ≤ maxRuleRows * ruleWidth) × (start < 65536) × (count < 65536) ⌝ }
     ensures { λ r. ⌜ (head < 65536 → now (rules .exit) ≡ sets (now (rules .entry)) place (head ∷ start ∷ count ∷ [])) ⌝ }
 {
     store(rules, place, head);
@@ -73,7 +79,7 @@ pub fn store_rule(rules: &mut [u16], place: usize, head: usize, start: usize, co
 
 // Stores a clause row: start, count.
 pub fn store_clause(clauses: &mut [u16], place: usize, start: usize, count: usize)
-    requires { ⌜ (place ≤ 4096) × (start < 65536) × (count < 65536) ⌝ }
+    requires { ⌜ (place ≤ maxClauseRows * clauseWidth) × (start < 65536) × (count < 65536) ⌝ }
     ensures { λ r. ⌜ now (clauses .exit) ≡ sets (now (clauses .entry)) place (start ∷ count ∷ []) ⌝ }
 {
     store(clauses, place, start);
@@ -82,7 +88,7 @@ pub fn store_clause(clauses: &mut [u16], place: usize, start: usize, count: usiz
 
 // Stores a load row: LO, HI, start, count.
 pub fn store_load(loads: &mut [i32], place: usize, low: i32, high: i32, start: usize, count: usize)
-    requires { ⌜ (place ≤ 256) × (start < 65536) × (count < 65536) ⌝ }
+    requires { ⌜ (place ≤ maxLoadRows * loadWidth) × (start < 65536) × (count < 65536) ⌝ }
     ensures { λ r. ⌜ now (loads .exit) ≡ sets (now (loads .entry)) place (low ∷ high ∷ pos start ∷ pos count ∷ []) ⌝ }
 {
     store_whole(loads, place, low);

@@ -10,7 +10,7 @@ use mir.Syntax.{w32}
 use mir.Val.{SFits}
 use Rattle.wellfounded.proofs.Tests.{same-test}
 use Rattle.tables.proofs.Signs.{magnitude-negated, magnitude-fits}
-use Rattle.numerals.specs.Offsets.{beyondLimits, capped, clamped}
+use Rattle.numerals.specs.internal.Offsets.{beyondLimits, capped, clamped}
 
 -- The value of a number.
 pub capped-small : (n : ℕ) → n ≤ beyondLimits → capped n ≡ n

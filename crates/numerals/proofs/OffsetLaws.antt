@@ -13,7 +13,7 @@ use borrow.Author.Tests.{eq-eqb, eqb-true}
 use Rattle.wellfounded.proofs.Tests.{first, second, not-both, clash}
 use Rattle.numerals.specs.declared.numbers.Number.the-variants.{Read, Refused}
 use Rattle.format.specs.Parse.{got, isDigit, moreDigits, startsWithDigit, readNumber}
-use Rattle.numerals.specs.Offsets.{beyondLimits, capped, answered, digitAt, digitsAt, numberAt}
+use Rattle.numerals.specs.internal.Offsets.{beyondLimits, capped, answered, digitAt, digitsAt, numberAt}
 use Rattle.format.proofs.Decimals.{more-end}
 use Rattle.numerals.proofs.CappedLaws.{capped-small, capped-limit, capped-digit}
 

@@ -19,8 +19,8 @@ use Rattle.numerals.specs.declared.numbers.Number.{Number}
 use Rattle.numerals.specs.declared.numbers.Number.the-variants.{Read, Refused}
 use Rattle.numerals.specs.declared.signed.Signed.{Signed}
 use Rattle.numerals.specs.declared.signed.Signed.the-variants.{Whole, Malformed}
-use Rattle.format.specs.Parse.{Reading, got, refused, andThen, readNumber, negative, readSigned}
-use Rattle.numerals.specs.Offsets.{beyondLimits, answered, numberAt, startsWithMinus, minusAt, clamped, answeredSigned, signedAt}
+use Rattle.format.specs.Parse.{Reading, got, refused, andThen, readNumber, asNegative, readSigned}
+use Rattle.numerals.specs.internal.Offsets.{beyondLimits, answered, numberAt, startsWithMinus, minusAt, clamped, answeredSigned, signedAt}
 use Rattle.numerals.proofs.CappedLaws.{capped-limit, capped-zero}
 
 -- The signed number that a number is, and the one that it is after a minus.
@@ -65,8 +65,8 @@ module _ (text : List ℕ) where
   plain-answer (got n rest) = refl
   plain-answer refused = refl
 
-  negated-answer : (r : Reading ℕ) → answeredSigned text (andThen r negative) ≡ negated (answered text r)
-  unfolding answeredSigned andThen negative clamped answered negated
+  negated-answer : (r : Reading ℕ) → answeredSigned text (andThen r asNegative) ≡ negated (answered text r)
+  unfolding answeredSigned andThen asNegative clamped answered negated
   negated-answer (got zero rest) = rw (capped-zero 0)
   negated-answer (got (suc n) rest) = rw (capped-zero (suc n), ne-eqb (suc n) 0 (omega arith))
   negated-answer refused = refl

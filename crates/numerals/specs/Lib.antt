@@ -1,3 +1,3 @@
--- Numbers in a text: the class of a byte, and numbers at an offset.
+-- The class of a byte. `internal` has numbers at an offset of a text.
 pub mod Bytes
-pub mod Offsets
+pub mod internal

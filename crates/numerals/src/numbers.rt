@@ -8,7 +8,7 @@ ghost use mathlib.Core.Bool.{true};
 ghost use Prim.Native.Nat.{_+_, _-_, _*_, _≤_};
 ghost use lib.ListN.{length};
 ghost use Rattle.format.specs.Parse.{isDigit};
-ghost use Rattle.numerals.specs.Offsets.{beyondLimits, capped, digitAt, digitsAt, numberAt};
+ghost use Rattle.numerals.specs.internal.Offsets.{beyondLimits, capped, digitAt, digitsAt, numberAt};
 
 // A value above every limit of the format, where values stop growing.
 const BEYOND_LIMITS: usize = 10_000_000;

@@ -3,7 +3,7 @@
 use crate::numbers::Number;
 use crate::numbers::number_from;
 ghost use mathlib.Core.Path.{_≡_};
-ghost use Rattle.numerals.specs.Offsets.{numberAt};
+ghost use Rattle.numerals.specs.internal.Offsets.{numberAt};
 
 // A lent text with the offset that was reached in it.
 pub struct Reader<'a> {

@@ -2,7 +2,7 @@
 use crate::numbers::Number;
 use crate::numbers::{self};
 ghost use mathlib.Core.Path.{_≡_};
-ghost use Rattle.numerals.specs.Offsets.{minusAt, signedAt};
+ghost use Rattle.numerals.specs.internal.Offsets.{minusAt, signedAt};
 
 // A signed number with the offset after it, or a refusal.
 pub enum Signed {

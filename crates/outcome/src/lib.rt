@@ -4,16 +4,25 @@ ghost use Prim.Native.Nat.{_≤_};
 ghost use lib.ListN.{length};
 ghost use Rattle.tables.specs.Limits.{maxAtoms};
 ghost use Rattle.tables.specs.Sound.{lent};
-ghost use Rattle.forms.specs.Entries.{lentTables};
+ghost use Rattle.forms.specs.Contents.{lentTables};
 ghost use Rattle.evaluator.specs.Evaluate.{isMade};
-ghost use Rattle.outcome.specs.Outcomes.{evaluationOutcome, bookOutcome, outcomeOf, usedParts, Comes, Roomy, FitsBook};
+ghost use Rattle.outcome.specs.Outcomes.{fullSpace, evaluationOutcome, bookOutcome, outcomeOf};
+ghost use Rattle.outcome.specs.internal.Promises.{usedParts, GivesOutcome, HoldEveryAtom, FitsBook};
 use booktext::Book;
 use booktext::StateForm;
-use booktext::read_once;
+use booktext::answer_of;
 use checker::check;
 use evaluator::evaluate;
+use judging::reached::Space;
+use lines::walk;
 use tables::Fault;
 use tables::Verdict;
+use tables::sizes::MAX_ATOMS;
+use tables::sizes::MAX_CLAUSE_ENTRIES;
+use tables::sizes::MAX_LITERALS;
+use tables::sizes::MAX_LOAD_ENTRIES;
+use tables::sizes::MAX_RULE_ENTRIES;
+use tables::sizes::MAX_TERMS;
 
 // The verdict, the state form, for how many atoms values and levels were made, and the rounds.
 pub struct Outcome {
@@ -51,13 +60,15 @@ fn evaluate_book(
     levels: &mut [u16],
 ) -> Outcome
     requires { ⌜ length (now given) ≤ maxAtoms ⌝ }
-    requires { ⌜ Roomy (now values) (now levels) ⌝ }
-    ensures { λ r. ⌜ Comes
-        (evaluationOutcome (lent (length (now (given .entry))) (now (rules .entry)) (now (literals .entry)) (now (clauses .entry)) (now (loads .entry))
+    requires { ⌜ HoldEveryAtom (now values) (now levels) ⌝ }
+    ensures { λ r. ⌜ GivesOutcome
+        (evaluationOutcome (lent (length (now (given .entry))) (now (rules .entry)) (now (literals .entry))
+        (now (clauses .entry)) (now (loads .entry))
         (now («load_literals» .entry)) (now (minutes .entry))) (now (given .entry)))
-        (now (values .entry)) (now (levels .entry)) (r .verdict) (r .state) (r .atoms) (r .rounds) (now (values .exit)) (now (levels .exit)) ⌝ }
+        (now (values .entry)) (now (levels .entry))
+        (r .verdict) (r .state) (r .atoms) (r .rounds) (now (values .exit)) (now (levels .exit)) ⌝ }
 {
-    let mut work = [0u16; 1024];
+    let mut work = [0u16; MAX_ATOMS];
     let atoms = given.len();
     let answer = evaluate(
         atoms,
@@ -108,13 +119,16 @@ fn book_outcome(
     values: &mut [u8],
     levels: &mut [u16],
 ) -> Outcome
-    requires { ⌜ FitsBook book (lentTables (now rules) (now literals) (now clauses) (now loads) (now «load_literals») (now minutes) (now given) (now «given_levels»)) ⌝ }
-    requires { ⌜ Roomy (now values) (now levels) ⌝ }
-    ensures { λ r. ⌜ Comes
+    requires { ⌜ FitsBook book (lentTables (now rules) (now literals) (now clauses) (now loads) (now «load_literals»)
+        (now minutes) (now given) (now «given_levels»)) ⌝ }
+    requires { ⌜ HoldEveryAtom (now values) (now levels) ⌝ }
+    ensures { λ r. ⌜ GivesOutcome
         (bookOutcome (book .verdict) (book .state) (book .atoms)
-        (usedParts book (lentTables (now (rules .entry)) (now (literals .entry)) (now (clauses .entry)) (now (loads .entry)) (now («load_literals» .entry))
+        (usedParts book (lentTables (now (rules .entry)) (now (literals .entry)) (now (clauses .entry)) (now (loads .entry))
+        (now («load_literals» .entry))
         (now (minutes .entry)) (now (given .entry)) (now («given_levels» .entry)))))
-        (now (values .entry)) (now (levels .entry)) (r .verdict) (r .state) (r .atoms) (r .rounds) (now (values .exit)) (now (levels .exit)) ⌝ }
+        (now (values .entry)) (now (levels .entry))
+        (r .verdict) (r .state) (r .atoms) (r .rounds) (now (values .exit)) (now (levels .exit)) ⌝ }
 {
     let atoms = book.atoms;
     let rule_entries = book.rules;
@@ -162,22 +176,41 @@ fn book_outcome(
     }
 }
 
-// What a text comes to. The tables of full size are held inside the call, so the text is walked once.
-pub fn outcome_of(text: &[u8], values: &mut [u8], levels: &mut [u16]) -> Outcome
-    requires { ⌜ Roomy (now values) (now levels) ⌝ }
-    ensures { λ r. ⌜ Comes (outcomeOf (now (text .entry)))
-        (now (values .entry)) (now (levels .entry)) (r .verdict) (r .state) (r .atoms) (r .rounds) (now (values .exit)) (now (levels .exit)) ⌝ }
+// The entries of tables of full size.
+fn full_space() -> Space
+    ensures { λ r. ⌜ r ≡ fullSpace ⌝ }
 {
-    let mut rules = [0u16; 6144];
-    let mut literals = [0u16; 16384];
-    let mut clauses = [0u16; 4096];
-    let mut loads = [0i32; 256];
-    let mut load_literals = [0u16; 4096];
-    let mut minutes = [0i16; 4096];
-    let mut given = [0u8; 1024];
-    let mut given_levels = [0u16; 1024];
-    let book = read_once(
+    Space {
+        rules: MAX_RULE_ENTRIES,
+        literals: MAX_LITERALS,
+        clauses: MAX_CLAUSE_ENTRIES,
+        loads: MAX_LOAD_ENTRIES,
+        load_literals: MAX_TERMS,
+        minutes: MAX_TERMS,
+        values: MAX_ATOMS,
+        levels: MAX_ATOMS,
+    }
+}
+
+// What a text comes to. The tables of full size are held inside the call and are of no worth after a refused text, so one
+// walk both judges the text and fills them.
+pub fn outcome_of(text: &[u8], values: &mut [u8], levels: &mut [u16]) -> Outcome
+    requires { ⌜ HoldEveryAtom (now values) (now levels) ⌝ }
+    ensures { λ r. ⌜ GivesOutcome (outcomeOf (now (text .entry)))
+        (now (values .entry)) (now (levels .entry))
+        (r .verdict) (r .state) (r .atoms) (r .rounds) (now (values .exit)) (now (levels .exit)) ⌝ }
+{
+    let mut rules = [0u16; MAX_RULE_ENTRIES];
+    let mut literals = [0u16; MAX_LITERALS];
+    let mut clauses = [0u16; MAX_CLAUSE_ENTRIES];
+    let mut loads = [0i32; MAX_LOAD_ENTRIES];
+    let mut load_literals = [0u16; MAX_TERMS];
+    let mut minutes = [0i16; MAX_TERMS];
+    let mut given = [0u8; MAX_ATOMS];
+    let mut given_levels = [0u16; MAX_ATOMS];
+    let judged = walk(
         text,
+        full_space(),
         &mut rules,
         &mut literals,
         &mut clauses,
@@ -188,7 +221,7 @@ pub fn outcome_of(text: &[u8], values: &mut [u8], levels: &mut [u16]) -> Outcome
         &mut given_levels,
     );
     book_outcome(
-        book,
+        answer_of(judged),
         &rules,
         &literals,
         &clauses,

@@ -10,10 +10,11 @@ use lib.Dec.{ltb}
 use lib.ListN.{length, set, length-append, length-set}
 use lib.Seq.{sets}
 use borrow.Author.Tests.{ltb-true, ltb-false}
+use Rattle.page.specs.internal.Putting.{maxPrinted}
 use Rattle.wellfounded.proofs.Tests.{decided}
 use Rattle.format.specs.Forms.{decimal}
 use Rattle.format.proofs.Decimals.{decimal-digit, decimal-snoc}
-use Rattle.page.specs.Pages.{Puts}
+use Rattle.page.specs.internal.Putting.{Puts}
 use Rattle.page.proofs.PutLaws.{sets-append, sets-set}
 
 -- The last digit, and what stands before it.
@@ -36,8 +37,8 @@ length-some n = step (decided (ltb n 10))
     step (inr t) = let e = length-last n (ltb-false n 10 t) in omega arith
 
 -- Ten times as many numbers have one digit more.
-longer : (k top n : ℕ) → ((m : ℕ) → m < top → length (decimal m) ≤ k) → n < top * 10 → length (decimal n) ≤ suc k
-longer k top n short h = step (decided (ltb n 10))
+decimal-longer : (k top n : ℕ) → ((m : ℕ) → m < top → length (decimal m) ≤ k) → n < top * 10 → length (decimal n) ≤ suc k
+decimal-longer k top n short h = step (decided (ltb n 10))
   where
     step : (ltb n 10 ≡ true) ⊎ (ltb n 10 ≡ false) → length (decimal n) ≤ suc k
     step (inl t) = let e = length-digit n (ltb-true n 10 t) in omega arith
@@ -51,18 +52,18 @@ pub length-1 : (n : ℕ) → n < 10 → length (decimal n) ≤ 1
 length-1 n h = let e = length-digit n h in omega arith
 
 pub length-2 : (n : ℕ) → n < 100 → length (decimal n) ≤ 2
-length-2 n h = longer 1 10 n length-1 h
+length-2 n h = decimal-longer 1 10 n length-1 h
 
 pub length-3 : (n : ℕ) → n < 1000 → length (decimal n) ≤ 3
-length-3 n h = longer 2 100 n length-2 h
+length-3 n h = decimal-longer 2 100 n length-2 h
 
 pub length-4 : (n : ℕ) → n < 10000 → length (decimal n) ≤ 4
-length-4 n h = longer 3 1000 n length-3 h
+length-4 n h = decimal-longer 3 1000 n length-3 h
 
 pub length-5 : (n : ℕ) → n < 100000 → length (decimal n) ≤ 5
-length-5 n h = longer 4 10000 n length-4 h
+length-5 n h = decimal-longer 4 10000 n length-4 h
 
-pub width-few : (digits number : ℕ) → digits ≡ length (decimal number) → number ≤ 65535 → (1 ≤ digits) × (digits ≤ 5)
+pub width-few : (digits number : ℕ) → digits ≡ length (decimal number) → number ≤ maxPrinted → (1 ≤ digits) × (digits ≤ 5)
 width-few digits number e h = (omega (arith, length-some number), omega (arith, length-5 number (omega arith)))
 
 -- While digits are counted: those counted and those of the rest are one more than all.

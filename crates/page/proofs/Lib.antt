@@ -1,4 +1,8 @@
--- The laws of the printed page: `PageLaws` says how long it is and what is on it; `PutLaws` and `DecimalLaws` serve the code.
+-- The page: `Order` says that it lists every atom once and in order, `Lengths` how long it is. The other files serve the functions.
+pub mod Order
+pub mod Lengths
+pub mod Joining
+pub mod Listing
 pub mod PutLaws
 pub mod DecimalLaws
-pub mod PageLaws
+pub mod Computes

@@ -7,7 +7,7 @@ use native.Mathlib.Omega.{arith}
 use native.Mathlib.Nat.{add-zero}
 use lib.ListN.{length, getD, set, drop, length-append, length-set, drop-of-length-le}
 use lib.Seq.{sets, length-sets, set-comm, drop-cons}
-use Rattle.page.specs.Pages.{Puts}
+use Rattle.page.specs.internal.Putting.{Puts}
 
 -- The stores of a ++ b are those of a and, behind them, those of b.
 pub sets-append : (l : List ℕ) (i : ℕ) (a b : List ℕ) → sets l i (a ++ b) ≡ sets (sets l i a) (i + length a) b
@@ -38,7 +38,8 @@ puts-then {l} {m} {r} {at} {mid} {end} {a} {b} p q =
 
 -- A word and a number, then the rest of the line.
 pub puts-behind :
-    {l m r : List ℕ} {at mid end : ℕ} (a b : List ℕ) {c : List ℕ} → Puts l at (a ++ b) mid m → Puts m mid c end r → Puts l at (a ++ (b ++ c)) end r
+    {l m r : List ℕ} {at mid end : ℕ} (a b : List ℕ) {c : List ℕ} → Puts l at (a ++ b) mid m → Puts m mid c end r →
+    Puts l at (a ++ (b ++ c)) end r
 puts-behind a b {c} p q = rw (append-assoc a b c) at (puts-then p q)
 
 -- Whatever is put, the length stays.

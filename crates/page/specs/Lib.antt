@@ -1,2 +1,4 @@
--- The printed page of document 01.
+-- The printed page, and its order said without computing it.
 pub mod Pages
+pub mod Order
+pub mod internal

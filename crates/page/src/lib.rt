@@ -1,16 +1,19 @@
 // The printed page, written into a buffer. Each function puts its bytes at an offset and answers the offset after them.
 ghost use mathlib.Core.Path.{_≡_};
-ghost use Prim.Native.Nat.{_+_, _≤_};
+ghost use Prim.Native.Nat.{_+_, _≤_, _<_};
 ghost use mathlib.Core.List.{_++_};
 ghost use lib.ListN.{length, set};
 ghost use Rattle.format.specs.Forms.{decimal};
+ghost use Rattle.tables.specs.Limits.{maxAtoms, maxPosition};
 ghost use Rattle.tables.specs.Faults.{positionOf};
-ghost use Rattle.page.specs.Pages.{verdictLine, madeLine, atomLine, levelLines, atomLines, pageOf, Puts, Printable};
+ghost use Rattle.page.specs.Pages.{verdictLine, madeLine, atomLine, atomLines, pageOf};
+ghost use Rattle.page.specs.internal.Putting.{Puts, Printable, maxPrinted, maxOffset, maxLineStart, levelLines};
 use tables::Verdict;
 use tables::fault_number;
+use tables::sizes::MAX_ATOMS;
 
-// How long the longest page is.
-pub const PAGE_SIZE: usize = 19_487;
+// How long the longest page is: a line of rounds, one of at most 19 bytes for each atom, and the verdict.
+pub const PAGE_SIZE: usize = 12 + (MAX_ATOMS * 19 + 19);
 
 // Puts one byte, if it is within the page.
 fn put_byte(page: &mut [u8], at: usize, byte: u8)
@@ -23,7 +26,7 @@ fn put_byte(page: &mut [u8], at: usize, byte: u8)
 
 // Puts bytes.
 pub fn put(page: &mut [u8], at: usize, bytes: &[u8]) -> usize
-    requires { ⌜ at + length (now bytes) ≤ 1000000 ⌝ }
+    requires { ⌜ at + length (now bytes) ≤ maxOffset ⌝ }
     ensures { λ r. ⌜ Puts (now (page .entry)) at (now (bytes .entry)) r (now (page .exit)) ⌝ }
 {
     let mut place = 0;
@@ -36,7 +39,7 @@ pub fn put(page: &mut [u8], at: usize, bytes: &[u8]) -> usize
 
 // How many digits a number has.
 fn width(number: usize) -> usize
-    requires { ⌜ number ≤ 65535 ⌝ }
+    requires { ⌜ number ≤ maxPrinted ⌝ }
     ensures { λ r. ⌜ r ≡ length (decimal number) ⌝ }
 {
     let mut digits = 1;
@@ -50,7 +53,7 @@ fn width(number: usize) -> usize
 
 // Puts a number in base ten, from its last digit on.
 fn put_decimal(page: &mut [u8], at: usize, number: usize) -> usize
-    requires { ⌜ (number ≤ 65535) × (at ≤ 1000000) ⌝ }
+    requires { ⌜ (number ≤ maxPrinted) × (at ≤ maxOffset) ⌝ }
     ensures { λ r. ⌜ Puts (now (page .entry)) at (decimal number) r (now (page .exit)) ⌝ }
 {
     let digits = width(number);
@@ -67,23 +70,24 @@ fn put_decimal(page: &mut [u8], at: usize, number: usize) -> usize
 
 // Puts a word and a number behind it.
 fn put_numbered(page: &mut [u8], at: usize, word: &[u8], number: usize) -> usize
-    requires { ⌜ (number ≤ 65535) × (at + length (now word) ≤ 1000000) ⌝ }
-    ensures { λ r. ⌜ Puts (now (page .entry)) at (now (word .entry) ++ decimal number) r (now (page .exit)) × (r ≤ at + length (now (word .entry)) + 5) ⌝ }
+    requires { ⌜ (number ≤ maxPrinted) × (at + length (now word) ≤ maxOffset) ⌝ }
+    ensures { λ r. ⌜ Puts (now (page .entry)) at (now (word .entry) ++ decimal number) r (now (page .exit))
+        × (r ≤ at + length (now (word .entry)) + 5) ⌝ }
 {
-    let told = put(page, at, word);
-    put_decimal(page, told, number)
+    let after_word = put(page, at, word);
+    put_decimal(page, after_word, number)
 }
 
 // Puts the verdict's line.
 fn put_verdict(page: &mut [u8], at: usize, verdict: Verdict) -> usize
-    requires { ⌜ (positionOf verdict ≤ 65535) × (at ≤ 900000) ⌝ }
+    requires { ⌜ (positionOf verdict ≤ maxPosition) × (at ≤ maxLineStart) ⌝ }
     ensures { λ r. ⌜ Puts (now (page .entry)) at (verdictLine verdict) r (now (page .exit)) ⌝ }
 {
     match verdict {
         Verdict::Accepted => put(page, at, b"(accepted)\n"),
         Verdict::Refused(fault, position) => {
-            let told = put_numbered(page, at, b"(refused ", fault_number(fault));
-            let placed = put_numbered(page, told, b" ", position);
+            let numbered = put_numbered(page, at, b"(refused ", fault_number(fault));
+            let placed = put_numbered(page, numbered, b" ", position);
             put(page, placed, b")\n")
         }
     }
@@ -91,16 +95,16 @@ fn put_verdict(page: &mut [u8], at: usize, verdict: Verdict) -> usize
 
 // Puts the line of the rounds.
 fn put_made(page: &mut [u8], at: usize, rounds: usize) -> usize
-    requires { ⌜ (rounds ≤ 65535) × (at ≤ 900000) ⌝ }
+    requires { ⌜ (rounds ≤ maxPrinted) × (at ≤ maxLineStart) ⌝ }
     ensures { λ r. ⌜ Puts (now (page .entry)) at (madeLine rounds) r (now (page .exit)) ⌝ }
 {
-    let told = put_numbered(page, at, b"(made ", rounds);
-    put(page, told, b")\n")
+    let numbered = put_numbered(page, at, b"(made ", rounds);
+    put(page, numbered, b")\n")
 }
 
 // Puts an atom's line.
 fn put_atom(page: &mut [u8], at: usize, atom: usize, value: usize, level: usize) -> usize
-    requires { ⌜ (atom ≤ 65535) × (value ≤ 65535) × (level ≤ 65535) × (at ≤ 900000) ⌝ }
+    requires { ⌜ (atom ≤ maxPrinted) × (value ≤ maxPrinted) × (level ≤ maxPrinted) × (at ≤ maxLineStart) ⌝ }
     ensures { λ r. ⌜ Puts (now (page .entry)) at (atomLine atom value level) r (now (page .exit)) ⌝ }
 {
     let named = put_numbered(page, at, b"(atom ", atom);
@@ -112,7 +116,7 @@ fn put_atom(page: &mut [u8], at: usize, atom: usize, value: usize, level: usize)
 // Puts the lines of the atoms at a level, by rising atom.
 fn put_level(page: &mut [u8], at: usize, values: &[u8], levels: &[u16], level: usize) -> usize
     requires { ⌜ Printable (now values) (now levels) ⌝ }
-    requires { ⌜ (level ≤ 65535) × (at + length (levelLines (now values) (now levels) level) ≤ 900000) ⌝ }
+    requires { ⌜ (level ≤ maxPrinted) × (at + length (levelLines (now values) (now levels) level) ≤ maxLineStart) ⌝ }
     ensures { λ r. ⌜ Puts (now (page .entry)) at (levelLines (now (values .entry)) (now (levels .entry)) level) r (now (page .exit)) ⌝ }
 {
     let mut next = at;
@@ -129,7 +133,7 @@ fn put_level(page: &mut [u8], at: usize, values: &[u8], levels: &[u16], level: u
 // Puts the lines of all atoms, by rising level.
 fn put_atoms(page: &mut [u8], at: usize, values: &[u8], levels: &[u16], rounds: usize) -> usize
     requires { ⌜ Printable (now values) (now levels) ⌝ }
-    requires { ⌜ (rounds ≤ 65534) × (at + length (atomLines (now values) (now levels) rounds) ≤ 900000) ⌝ }
+    requires { ⌜ (rounds < maxPrinted) × (at + length (atomLines (now values) (now levels) rounds) ≤ maxLineStart) ⌝ }
     ensures { λ r. ⌜ Puts (now (page .entry)) at (atomLines (now (values .entry)) (now (levels .entry)) rounds) r (now (page .exit)) ⌝ }
 {
     let mut next = at;
@@ -151,13 +155,14 @@ pub fn put_page(
     levels: &[u16],
 ) -> usize
     requires { ⌜ Printable (now values) (now levels) ⌝ }
-    requires { ⌜ (positionOf verdict ≤ 65535) × (rounds ≤ 1024) ⌝ }
-    ensures { λ r. ⌜ Puts (now (page .entry)) 0 (pageOf made verdict rounds (now (values .entry)) (now (levels .entry))) r (now (page .exit)) ⌝ }
+    requires { ⌜ (positionOf verdict ≤ maxPosition) × (rounds ≤ maxAtoms) ⌝ }
+    ensures { λ r. ⌜ Puts (now (page .entry)) 0 (pageOf made verdict rounds (now (values .entry)) (now (levels .entry)))
+        r (now (page .exit)) ⌝ }
 {
     if !made {
         return put_verdict(page, 0, verdict);
     }
-    let begun = put_made(page, 0, rounds);
-    let listed = put_atoms(page, begun, values, levels, rounds);
+    let counted = put_made(page, 0, rounds);
+    let listed = put_atoms(page, counted, values, levels, rounds);
     put_verdict(page, listed, verdict)
 }

@@ -1,2 +1,4 @@
 -- `ReportLaws`: a report is the page of the text's outcome, and a page of full size holds it.
+pub mod Listing
 pub mod ReportLaws
+pub mod Computes

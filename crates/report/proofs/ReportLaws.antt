@@ -6,19 +6,22 @@ use mathlib.Core.Bool.{Bool, true, false, cond, _&&_}
 use mathlib.Core.List.{List}
 use native.Mathlib.Omega.{arith}
 use lib.Dec.{leb}
-use lib.ListN.{length, take, drop}
-use lib.Seq.{sets, sets-eq, take-append-seam}
+use lib.ListN.{length, take}
+use lib.Seq.{sets}
 use borrow.Author.Tests.{le-leb, lt-leb}
 use Rattle.tables.specs.declared.Verdict.{Verdict}
 use Rattle.tables.specs.Faults.{positionOf}
-use Rattle.tables.specs.Limits.{maxAtoms}
-use Rattle.forms.specs.Entries.{over}
+use Rattle.tables.specs.Limits.{maxAtoms, maxPosition}
+use Rattle.forms.specs.Contents.{over}
+use Rattle.forms.proofs.OverLaws.{sets-front, over-front}
 use Rattle.booktext.specs.declared.StateForm.{StateForm}
 use Rattle.evaluator.specs.Evaluate.{isMade}
-use Rattle.outcome.specs.Outcomes.{outcomeOf, Comes}
+use Rattle.outcome.specs.Outcomes.{outcomeOf}
+use Rattle.outcome.specs.internal.Promises.{GivesOutcome}
 use Rattle.outcome.proofs.Bounds.{outcome-bounded}
-use Rattle.page.specs.Pages.{pageOf, pageSize, Puts, Printable}
-use Rattle.page.proofs.PageLaws.{page-size}
+use Rattle.page.specs.Pages.{pageOf, pageSize}
+use Rattle.page.specs.internal.Putting.{Puts, Printable}
+use Rattle.page.proofs.Lengths.{page-size}
 use Rattle.report.specs.Reports.{isOpenState, printsAtoms, outcomePage, reportOf, Reported}
 
 -- No report is longer than a page.
@@ -34,23 +37,17 @@ report-short text page l = let e : leb pageSize (length page) ≡ _ = lt-leb pag
 
 report-is :
     (text : List ℕ) →
-    pageOf (isOpenState (outcomeOf text .state) && isMade (outcomeOf text .verdict)) (outcomeOf text .verdict) (outcomeOf text .rounds) (outcomeOf text .values)
-    (outcomeOf text .levels) ≡ reportOf text
+    pageOf (isOpenState (outcomeOf text .state) && isMade (outcomeOf text .verdict)) (outcomeOf text .verdict) (outcomeOf text .rounds)
+    (outcomeOf text .values) (outcomeOf text .levels) ≡ reportOf text
 unfolding reportOf outcomePage printsAtoms
 report-is text = refl
 
--- Bytes stored at the front of a page that holds them.
-pub held : (bytes page : List ℕ) → length bytes ≤ length page → sets page 0 bytes ≡ over bytes page
-unfolding over
-held bytes page l = let z : 0 + length bytes ≡ length bytes = omega arith in sets-eq bytes page 0 (omega arith) ∙ rw z
-
 -- The front of a slice that holds something there.
 pub front : {A : Type 0} (used held : List A) (n : ℕ) → n ≡ length used → take (n - 0) (over used held) ≡ used
-unfolding over
-front used held n e = let f : n - 0 ≡ length used = omega (arith, e) in rw f (take-append-seam used (drop (length used) held))
+front used held n e = over-front used held (n - 0) (omega arith)
 
 module _ (text valuesBefore levelsBefore : List ℕ) {verdict : Verdict} {state : StateForm} {atoms rounds : ℕ} {values levels : List ℕ}
-    (comes : Comes (outcomeOf text) valuesBefore levelsBefore verdict state atoms rounds values levels) where
+    (comes : GivesOutcome (outcomeOf text) valuesBefore levelsBefore verdict state atoms rounds values levels) where
   pub front-values : take (atoms - 0) values ≡ outcomeOf text .values
   front-values = ap (λ (l : List ℕ). take (atoms - 0) l) (comes .valuesIs) ∙ front (outcomeOf text .values) valuesBefore atoms (comes .atomsIs)
 
@@ -59,11 +56,11 @@ module _ (text valuesBefore levelsBefore : List ℕ) {verdict : Verdict} {state 
       ap (λ (l : List ℕ). take (atoms - 0) l) (comes .levelsIs) ∙
       front (outcomeOf text .levels) levelsBefore atoms (comes .atomsIs ∙ outcome-bounded text .alike)
 
-  pub few-atoms : atoms ≤ maxAtoms
-  few-atoms = let b = outcome-bounded text in omega (arith, comes .atomsIs, b .alike, b .few)
+  pub atoms-within : atoms ≤ maxAtoms
+  atoms-within = let b = outcome-bounded text in omega (arith, comes .atomsIs, b .alike, b .few)
 
   -- What `put_page` asks,
-  pub printable : Printable (take (atoms - 0) values) (take (atoms - 0) levels) × (positionOf verdict ≤ 65535) × (rounds ≤ 1024)
+  pub printable : Printable (take (atoms - 0) values) (take (atoms - 0) levels) × (positionOf verdict ≤ maxPosition) × (rounds ≤ maxAtoms)
   printable =
       let b = outcome-bounded text in (
         rw (front-values, front-levels) (record { even = b .alike; few = b .few }),
@@ -74,7 +71,8 @@ module _ (text valuesBefore levelsBefore : List ℕ) {verdict : Verdict} {state 
   -- and what it then has written.
   pub report-written :
       {made : Bool} {answer : ℕ} {page afterwards : List ℕ} → pageSize ≤ length page → made ≡ (isOpenState state && isMade verdict) →
-      Puts page 0 (pageOf made verdict rounds (take (atoms - 0) values) (take (atoms - 0) levels)) answer afterwards → Reported text page answer afterwards
+      Puts page 0 (pageOf made verdict rounds (take (atoms - 0) values) (take (atoms - 0) levels)) answer afterwards →
+      Reported text page answer afterwards
   report-written {made} {answer} {page} {afterwards} l m puts =
       let same : pageOf made verdict rounds (take (atoms - 0) values) (take (atoms - 0) levels) ≡ reportOf text =
       rw (m, front-values, front-levels, comes .verdictIs, comes .stateIs, comes .roundsIs) (report-is text) in
@@ -82,7 +80,7 @@ module _ (text valuesBefore levelsBefore : List ℕ) {verdict : Verdict} {state 
       let z : 0 + length (reportOf text) ≡ length (reportOf text) = omega arith in
       record {
         answered = rw long (puts .answered ∙ (ap (λ (bs : List ℕ). 0 + length bs) same ∙ z));
-        written = rw long (puts .stored ∙ (ap (λ (bs : List ℕ). sets page 0 bs) same ∙ held (reportOf text) page (omega (arith, report-size text))));
+        written = rw long (puts .stored ∙ (ap (λ (bs : List ℕ). sets page 0 bs) same ∙ sets-front page (reportOf text) (omega (arith, report-size text))));
       }
 
 -- Whatever the page's length, the answer is no longer than a report.

@@ -5,7 +5,7 @@ use mathlib.Core.Bool.{Bool, true, false, cond, _&&_}
 use mathlib.Core.List.{List}
 use lib.Dec.{leb}
 use lib.ListN.{length}
-use Rattle.forms.specs.Entries.{over}
+use Rattle.forms.specs.Contents.{over}
 use Rattle.booktext.specs.declared.StateForm.{StateForm}
 use Rattle.booktext.specs.declared.StateForm.the-variants.{NoState, OpenState, ClaimState}
 use Rattle.evaluator.specs.Evaluate.{isMade}
@@ -27,8 +27,8 @@ outcomePage o = pageOf (printsAtoms (o .state) (isMade (o .verdict))) (o .verdic
 unfoldable pub reportOf : List ℕ → List ℕ
 reportOf text = outcomePage (outcomeOf text)
 
--- A buffer of the full page size holds every report, and what lies beyond the report keeps its content. In a shorter one nothing is written, and
--- the length is answered as 0.
+-- A buffer of the full page size holds every report, and what lies beyond the report keeps its content. In a shorter one nothing
+-- is written, and the length is answered as 0.
 pub record Reported (text before : List ℕ) (answer : ℕ) (afterwards : List ℕ) : Type 0 where
   pub answered : answer ≡ cond (leb pageSize (length before)) (length (reportOf text)) 0
   pub written : afterwards ≡ cond (leb pageSize (length before)) (over (reportOf text) before) before

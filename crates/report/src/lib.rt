@@ -6,6 +6,7 @@ use outcome::is_made;
 use outcome::outcome_of;
 use page::PAGE_SIZE;
 use page::put_page;
+use tables::sizes::MAX_ATOMS;
 
 // Whether a text ended with an open form.
 fn is_open(state: StateForm) -> bool
@@ -25,8 +26,8 @@ pub fn report(text: &[u8], page: &mut [u8]) -> usize
     if page.len() < PAGE_SIZE {
         return 0;
     }
-    let mut values = [0u8; 1024];
-    let mut levels = [0u16; 1024];
+    let mut values = [0u8; MAX_ATOMS];
+    let mut levels = [0u16; MAX_ATOMS];
     let outcome = outcome_of(text, &mut values, &mut levels);
     let verdict = outcome.verdict;
     let state = outcome.state;

@@ -1,91 +1,67 @@
--- The founded marks are kept: largest unfounded sets stay as they are from stage to stage while no atom becomes true that occurs negated.
+-- The founded marks are kept while no atom becomes true that occurs negated: the largest unfounded set stays as it is.
 -- Assumes nothing.
-use Prim.Native.Nat.{ℕ, suc, _<_}
-use mathlib.Core.Path.{_≡_, refl, sym, ap, _∙_}
-use mathlib.Core.Logic.{_⊎_, inl, inr, ⊎-elim}
+use Prim.Native.Nat.{ℕ, suc, _≤_, _<_}
+use mathlib.Core.Path.{_≡_, sym, ap, _∙_}
+use mathlib.Core.Logic.{⊎-elim}
 use mathlib.Core.Bool.{true, false, not, _&&_}
-use mathlib.Core.List.{List, List·Memᴰ}
+use mathlib.Core.List.{List}
+use native.Mathlib.Nat.{le-trans}
 use lib.Dec.{eqb}
+use lib.ListN.{length, replicate}
 use borrow.Author.Tests.{eq-eqb}
-use Rattle.wellfounded.specs.Literals.{isTrue, isHeld, valueAt, atomOf, isNegated, literalFalse}
-use Rattle.wellfounded.specs.Definitions.{Rule, Definition}
-use Rattle.wellfounded.specs.Unfounded.{restsOn, Unfounded, member, largest}
+use Rattle.wellfounded.specs.Lists.{anyBelow}
+use Rattle.wellfounded.specs.Literals.{isTrue, isHeld, valueAt, atomOf, isNegated}
+use Rattle.wellfounded.specs.Definitions.{Definition, fires}
 use Rattle.wellfounded.specs.Stages.{stage}
-use Rattle.wellfounded.proofs.Tests.{decided, clash, both, same-test}
-use Rattle.wellfounded.proofs.Lists.{any-make, tabulate-member}
-use Rattle.wellfounded.proofs.Literals.{true-held, false-held, held-below, not-negated-positive, positive-false, literal-false-same}
-use Rattle.wellfounded.proofs.Unfounded.{Obstructed, largest-unfounded, largest-holds}
-use Rattle.wellfounded.proofs.Stages.{next-false-from, stage-length, stage-suc, stage-keeps}
-use Rattle.tables.specs.Rows.{ruleCount, ruleAt, rulesOf, definitionOf}
-use Rattle.founding.specs.Founding.{Founded}
-use Rattle.founding.proofs.FoundedMarks.{body-member}
-use Rattle.founding.proofs.LargestGrows.{largest-later}
-use Rattle.rounds.specs.Rounds.{occursNegated}
+use Rattle.wellfounded.proofs.Tests.{clash, both}
+use Rattle.wellfounded.proofs.Lists.{any-make, anyBelow-make}
+use Rattle.wellfounded.proofs.Literals.{true-held, held-below}
+use Rattle.wellfounded.proofs.Stages.{next-true-from, stage-length, stage-suc}
+use Rattle.wellfounded.proofs.LargestGrows.{OccursNegated, largest-stays}
+use Rattle.tables.specs.Limits.{maxAtoms}
+use Rattle.tables.specs.Rows.{ruleCount}
+use Rattle.tables.specs.internal.Definitions.{HasRows}
+use Rattle.tables.specs.internal.Marks.{isMarked, markWhere}
+use Rattle.tables.proofs.MarkLaws.{fresh-marks}
+use Rattle.tables.proofs.RowLaws.{rule-member}
+use Rattle.founding.specs.internal.Founding.{Founded}
+use Rattle.rounds.specs.internal.Firing.{firesBy}
+use Rattle.rounds.specs.internal.Starting.{occursNegated}
+use Rattle.rounds.specs.internal.Deciding.{negatedBecomesTrue}
+use Rattle.rounds.proofs.NextStage.{fires-marked}
 
--- A rule's literals stand in the literal table.
-rule-member :
-    (rules literals : List ℕ) (r : Rule) → List·Memᴰ r (rulesOf rules literals) → {l : ℕ} → List·Memᴰ l (r .body) → List·Memᴰ l literals
-unfolding rulesOf ruleAt
-rule-member rules literals r m here =
-    let at = tabulate-member (ruleCount rules) (ruleAt rules literals) m in
-    body-member rules literals (at .0) (rw (at .2) at here)
+module _ {d : Definition} {rules literals : List ℕ} (rows : HasRows d rules literals) where
+  -- An atom that occurs negated in a body does so in the literal table.
+  occurs-in-table : (a : ℕ) → OccursNegated d a → occursNegated literals a ≡ true
+  unfolding occursNegated
+  occurs-in-table a n =
+      any-make (λ (j : ℕ). isNegated j && eqb (atomOf j) a) literals (rule-member rows (n .rule) (n .ofRules) (n .inBody))
+      (both _ _ (n .negated) (eq-eqb _ _ (n .on)))
 
-negated-false : (s : List ℕ) (l : ℕ) → isNegated l ≡ true → literalFalse s l ≡ true → isTrue (valueAt s (atomOf l)) ≡ true
-unfolding literalFalse
-negated-false s l n h = rw n at h
-
-module _ (atoms : ℕ) (rules literals o : List ℕ) (k : ℕ) where
-  abbrev d : Definition
-  d = definitionOf atoms rules literals
-
-  -- No atom becomes true from stage k to the next that occurs negated in the table.
   module _
-      (quiet :
-      (a : ℕ) → a < atoms → isHeld (valueAt (stage (definitionOf atoms rules literals) o k) a) ≡ false →
-      isTrue (valueAt (stage (definitionOf atoms rules literals) o (suc k)) a) ≡ true → occursNegated literals a ≡ false)
+      (o : List ℕ) (k : ℕ) (firing founded negated : List ℕ)
+      (fired : firing ≡ markWhere (firesBy rules literals (stage d o k) (ruleCount rules)) (replicate (d .size) 0))
+      (known : Founded d (stage d o k) founded)
+      (marked : negated ≡ markWhere (occursNegated literals) (replicate maxAtoms 0)) (few : d .size ≤ maxAtoms)
+      (none : anyBelow (length (stage d o k)) (negatedBecomesTrue (stage d o k) firing negated) ≡ false)
     where
-      -- Then a literal that becomes false is positive, on an atom of the largest unfounded set.
-      becomes-false :
-          (l : ℕ) → List·Memᴰ l literals → literalFalse (stage d o (suc k)) l ≡ true →
-          (literalFalse (stage d o k) l ≡ true) ⊎ (restsOn (member (largest d (stage d o (suc k)))) l ≡ true)
-      unfolding restsOn occursNegated definitionOf
-      becomes-false l m f = ⊎-elim (λ held. inl (literal-false-same (stage d o (suc k)) _ l (sym (stage-keeps d o k (atomOf l) held)) f)) fresh (decided (isHeld (valueAt (stage d o k) (atomOf l))))
+      -- An atom that becomes true fires, so that it would have been noticed.
+      quiet : (a : ℕ) → isHeld (valueAt (stage d o k) a) ≡ false → isTrue (valueAt (stage d o (suc k)) a) ≡ true → OccursNegated d a → ⊥
+      unfolding negatedBecomesTrue
+      quiet a lacks now negative =
+          clash
+          (anyBelow-make (length (stage d o k)) (negatedBecomesTrue (stage d o k) firing negated) a (rw (stage-length d o k) below)
+          (both (not (isHeld (valueAt (stage d o k) a)) && isMarked firing a) _
+          (both _ _ (ap not lacks) (fires-marked rows o k firing founded fired known a below lacks ∙ fires-now)) occurs)) none
         where
-          fresh : isHeld (valueAt (stage d o k) (atomOf l)) ≡ false →
-              (literalFalse (stage d o k) l ≡ true) ⊎ (restsOn (member (largest d (stage d o (suc k)))) l ≡ true)
-          fresh lacks =
-              ⊎-elim
-              (λ n.
-              let t = negated-false _ l n f in
-              absurd (clash
-              (any-make (λ (j : ℕ). isNegated j && eqb (atomOf j) (atomOf l)) literals m (both _ _ n (eq-eqb (atomOf l) _ refl)))
-              (quiet (atomOf l) (rw (stage-length d o (suc k)) at (held-below _ _ (true-held _ t))) lacks t)))
-              (λ p.
-              ⊎-elim (λ before. absurd (clash (false-held _ before) lacks))
-              (λ new. inr (both _ _ (largest-later d o k (atomOf l) new) (not-negated-positive l p)))
-              (next-false-from d (stage d o k) (atomOf l) (rw stage-suc at (positive-false _ l p f))))
-              (decided (isNegated l))
+          below : a < d .size
+          below = rw (stage-length d o (suc k)) at (held-below _ _ (true-held _ now))
 
-      -- So the next stage's largest unfounded set is unfounded at this one.
-      earlier-unfounded : Unfounded d (stage d o k) (member (largest d (stage d o (suc k))))
-      unfolding definitionOf
-      earlier-unfounded = record { ofDefined = unf .ofDefined; eachRule = before }
-        where
-          unf : Unfounded d (stage d o (suc k)) (member (largest d (stage d o (suc k))))
-          unf = largest-unfounded d (stage d o (suc k))
+          fires-now : fires d (stage d o k) a ≡ true
+          fires-now = ⊎-elim (λ t. absurd (clash (true-held _ t) lacks)) (λ f. f) (next-true-from d (stage d o k) a (rw stage-suc at now))
 
-          before : (r : Rule) → List·Memᴰ r (d .rules) → member (largest d (stage d o (suc k))) (r .head) ≡ true →
-              Obstructed (stage d o k) (member (largest d (stage d o (suc k)))) (r .body)
-          before r m h =
-              let found = unf .eachRule r m h in
-              (found .0, found .1, ⊎-elim (λ f. becomes-false (found .0) (rule-member rules literals r m (found .1)) f) inr (found .2))
+          occurs : isMarked negated a ≡ true
+          occurs = rw marked (fresh-marks maxAtoms (occursNegated literals) a (le-trans below few)) ∙ occurs-in-table a negative
 
-      pub largest-stays :
-          (a : ℕ) → member (largest (definitionOf atoms rules literals) (stage (definitionOf atoms rules literals) o (suc k))) a
-          ≡ member (largest (definitionOf atoms rules literals) (stage (definitionOf atoms rules literals) o k)) a
-      largest-stays a = same-test _ _ (largest-holds d _ _ earlier-unfounded a) (largest-later d o k a)
-
-      pub founded-kept :
-          (marks : List ℕ) → Founded (definitionOf atoms rules literals) (stage (definitionOf atoms rules literals) o k) marks →
-          Founded (definitionOf atoms rules literals) (stage (definitionOf atoms rules literals) o (suc k)) marks
-      founded-kept marks founded = record { room = founded .room; tells = λ a l. founded .tells a l ∙ ap not (sym (largest-stays a)) }
+      pub founded-kept : Founded d (stage d o (suc k)) founded
+      founded-kept = record { room = known .room; tells = λ a l. known .tells a l ∙ ap not (sym (largest-stays d o k quiet a)) }

@@ -12,10 +12,10 @@ use lib.Seq.{set-getD}
 use borrow.Author.Tests.{lt-ltb, le-ltb, ne-eqb}
 use Rattle.wellfounded.specs.Lists.{anyBelow, count}
 use Rattle.wellfounded.specs.Literals.{isHeld, valueAt}
-use Rattle.tables.specs.Marks.{isMarked}
-use Rattle.rounds.specs.Rounds.{decides, negatedBecomesTrue, decidedValue, decidedLevel, decidedValues, decidedLevels, Decidable, AtomDecided, Decided}
+use Rattle.tables.specs.internal.Marks.{isMarked}
+use Rattle.rounds.specs.internal.Deciding.{decides, negatedBecomesTrue, decidedValue, decidedLevel, decidedValues, decidedLevels, Decidable, AtomDecided, RoundDecided}
 use Rattle.wellfounded.proofs.Literals.{held-at, value-at}
-use Rattle.founding.proofs.InPlace.{Written, written-start, written-turn, written-end}
+use Rattle.wellfounded.proofs.InPlace.{Written, written-start, written-turn, written-end}
 
 -- An undecided atom is not held.
 not-held : (state : List ℕ) (atom : ℕ) → atom < length state → 2 ≤ getD state atom 0 → isHeld (valueAt state atom) ≡ false
@@ -34,13 +34,15 @@ module _
     module _ (undecided : 2 ≤ getD state atom 0) where
       pub atom-fires :
           getD firing atom 0 ≡ 1 →
-          AtomDecided level founded negated firing state levels atom 1 (eqb (getD negated atom 0) 1) (set state atom 1) (set levels atom level)
+          AtomDecided level founded negated firing state levels atom 1 (eqb (getD negated atom 0) 1) (set state atom 1)
+          (set levels atom level)
       unfolding decides negatedBecomesTrue isMarked
       atom-fires fires = let lacks = not-held state atom within undecided in record { many = rw (lacks, fires); again = rw (lacks, fires); value = rw (lacks, fires); stage = rw (lacks, fires) }
 
       module _ (quiet : getD firing atom 0 ≡ 1 → ⊥) where
         pub atom-unfounded :
-            (getD founded atom 0 ≡ 1 → ⊥) → AtomDecided level founded negated firing state levels atom 1 false (set state atom 0) (set levels atom level)
+            (getD founded atom 0 ≡ 1 → ⊥) →
+            AtomDecided level founded negated firing state levels atom 1 false (set state atom 0) (set levels atom level)
         unfolding decides negatedBecomesTrue isMarked
         atom-unfounded none =
             let lacks = not-held state atom within undecided in
@@ -83,7 +85,8 @@ module _ {level : ℕ} {founded negated firing values levels : List ℕ} (room :
 
   -- The slices have kept their lengths.
   pub deciding-room :
-      {decided atom : ℕ} {renewed : Bool} {values′ levels′ : List ℕ} → Deciding level founded negated firing values levels decided renewed values′ levels′ atom →
+      {decided atom : ℕ} {renewed : Bool} {values′ levels′ : List ℕ} →
+      Deciding level founded negated firing values levels decided renewed values′ levels′ atom →
       Decidable founded negated firing values′ levels′
   deciding-room w =
       record {
@@ -116,7 +119,7 @@ module _ {level : ℕ} {founded negated firing values levels : List ℕ} (room :
   pub deciding-end :
       {decided atom : ℕ} {renewed : Bool} {values′ levels′ : List ℕ} → length values ≤ atom →
       Deciding level founded negated firing values levels decided renewed values′ levels′ atom →
-      Decided level founded negated firing values levels decided renewed values′ levels′
+      RoundDecided level founded negated firing values levels decided renewed values′ levels′
   unfolding decidedValues decidedLevels
   deciding-end {decided} {atom} end w =
       let e : atom ≡ length values = omega (arith, w .valued .low) in

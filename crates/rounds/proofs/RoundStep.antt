@@ -5,122 +5,121 @@ use mathlib.Core.Path.{_≡_, refl, sym, ap, _∙_}
 use mathlib.Core.Logic.{⊎-elim}
 use mathlib.Core.Bool.{Bool, true, false}
 use mathlib.Core.List.{List}
-use native.Mathlib.Nat.{le-of-suc-le-suc, not-suc-le-zero, eq-or-lt-of-le}
+use native.Mathlib.Nat.{le-of-suc-le-suc, not-suc-le-zero, eq-or-lt-of-le, le-trans}
 use native.Mathlib.Numerals.{add-one}
 use native.Mathlib.Omega.{arith}
 use lib.ListN.{length, replicate, length-replicate}
 use Rattle.wellfounded.specs.Lists.{count}
 use Rattle.wellfounded.specs.Definitions.{Definition}
 use Rattle.wellfounded.specs.Stages.{stage, closure, wellFoundedModel}
+use Rattle.wellfounded.specs.internal.Progress.{levelsAfter}
 use Rattle.wellfounded.proofs.Tests.{clash}
 use Rattle.wellfounded.proofs.Lists.{length-tabulate}
 use Rattle.wellfounded.proofs.Stages.{stage-length}
+use Rattle.wellfounded.proofs.Closure.{closure-size, moves-bound, rest-is-closure}
+use Rattle.wellfounded.proofs.Progress.{levels-start, levels-end}
 use Rattle.tables.specs.Limits.{maxAtoms}
-use Rattle.tables.specs.Rows.{ruleCount, definitionOf}
-use Rattle.tables.specs.Marks.{markWhere}
+use Rattle.tables.specs.Rows.{ruleCount}
+use Rattle.tables.specs.internal.Marks.{markWhere}
 use Rattle.tables.proofs.MarkLaws.{mark-length}
-use Rattle.founding.specs.Founding.{Founded, foundAll}
-use Rattle.rounds.specs.Rounds.{firesBy, occursNegated, levelsAfter, startValues, decides, Decided, AtStage, Roomy, Started, RoundDone, RoundsDone}
-use Rattle.rounds.proofs.NextStage.{start-stage, levels-start, values-next, levels-next, quiet-round}
-use Rattle.rounds.proofs.AfterRounds.{levels-stay, no-change, some-change, levels-end, rounds-bound, rest-is-closure}
+use Rattle.founding.specs.internal.Founding.{Founded, foundAll}
 use Rattle.founding.proofs.FoundedMarks.{found-all}
+use Rattle.rounds.specs.internal.Firing.{firesBy}
+use Rattle.rounds.specs.internal.Starting.{occursNegated, startValues}
+use Rattle.rounds.specs.internal.Deciding.{decides, RoundDecided}
+use Rattle.rounds.specs.internal.Rounds.{Lends, AtStage, RoundFits, StagesReady, RoundDone, RoundsDone}
+use Rattle.rounds.proofs.NextStage.{start-stage, values-next, levels-next}
+use Rattle.rounds.proofs.AfterRounds.{levels-stay, no-change, some-change}
 use Rattle.rounds.proofs.FoundedKept.{founded-kept}
 
 -- ── At a stage ──
 
 module _
-    {rules literals setting : List ℕ} {k : ℕ} {defined negated founded values levels work : List ℕ}
-    (at : AtStage rules literals setting k defined negated founded values levels work)
+    {d : Definition} {rules literals setting : List ℕ} {k : ℕ} {defined negated founded values levels work : List ℕ}
+    (at : AtStage d rules literals setting k defined negated founded values levels work)
   where
-    abbrev d : Definition
-    d = definitionOf (length setting) rules literals
-
-    values-long : length values ≡ length setting
-    unfolding definitionOf
+    values-long : length values ≡ d .size
     values-long = ap length (at .atValues) ∙ stage-length d setting k
 
-    levels-long : length levels ≡ length setting
-    unfolding levelsAfter definitionOf
+    levels-long : length levels ≡ d .size
+    unfolding levelsAfter
     levels-long = ap length (at .atLevels) ∙ length-tabulate _ _
 
-    work-long : length work ≡ length setting
+    work-long : length work ≡ d .size
     work-long = ap length (at .atWork) ∙ length-replicate _ _
 
     -- No round goes beyond the slices,
-    pub at-roomy : Roomy rules literals defined negated founded values levels work
-    at-roomy =
+    pub at-fits : RoundFits rules literals defined negated founded values levels work
+    at-fits =
         record {
-          rows = rw values-long (at .rows);
-          definedRoom = at .definedRoom ∙ sym (at .foundedRoom);
-          negatedRoom = rw (at .negatedTells, mark-length, length-replicate, values-long) (at .few);
-          foundedRoom = rw (at .foundedRoom, values-long) (at .few);
+          rows = rw values-long (at .lends .rows);
+          definedRoom = at .lends .room ∙ sym (at .foundedRoom);
+          negatedRoom = rw (at .negatedTells, mark-length, length-replicate, values-long) (at .lends .few);
+          foundedRoom = rw (at .foundedRoom, values-long) (at .lends .few);
           levelsLong = levels-long ∙ sym values-long;
           workLong = work-long ∙ sym values-long;
         }
 
     -- and there have been no more rounds than atoms.
     pub at-bound : k ≤ length setting
-    at-bound = rounds-bound (length setting) rules literals setting k (at .moved)
+    at-bound = rw (at .lends .long) (le-trans (moves-bound d setting k (at .moves)) (closure-size d setting))
 
     pub at-small : k ≤ maxAtoms
-    at-small = let b = at-bound in let f = at .few in omega arith
+    at-small = omega (arith, at-bound, at .lends .long, at .lends .few)
 
     -- ── A round ──
 
     module _
         {level : ℕ} {firing : List ℕ} {decided : ℕ} {renewed : Bool} {values′ levels′ work′ : List ℕ}
         (marked : firing ≡ markWhere (firesBy rules literals values (ruleCount rules)) work)
-        (done : Decided level founded negated firing values levels decided renewed values′ levels′)
+        (done : RoundDecided level founded negated firing values levels decided renewed values′ levels′)
         (clear : work′ ≡ replicate (length firing) 0) (so : suc k ≡ level)
       where
-        fired : firing ≡ markWhere (firesBy rules literals (stage d setting k) (ruleCount rules)) (replicate (length setting) 0)
+        fired : firing ≡ markWhere (firesBy rules literals (stage d setting k) (ruleCount rules)) (replicate (d .size) 0)
         fired = rw (at .atValues, at .atWork) at marked
 
         many : decided ≡ count (length (stage d setting k)) (decides (stage d setting k) firing founded)
         many = rw (at .atValues) at (done .changes .many)
 
-        cleared : work′ ≡ replicate (length setting) 0
+        cleared : work′ ≡ replicate (d .size) 0
         cleared = rw (marked, mark-length, work-long) at clear
 
         next-values : values′ ≡ stage d setting (suc k)
-        next-values = rw (at .atValues) at (done .values) ∙ values-next (length setting) rules literals setting k firing founded fired (at .foundedTells)
+        next-values = rw (at .atValues) at (done .values) ∙ values-next (at .lends .hasRows) setting k firing founded fired (at .foundedTells)
 
         -- If it decides nothing, the stage is the last.
-        pub round-last : decided ≡ 0 → RoundDone rules literals setting k defined negated founded values′ levels′ work′ false
+        pub round-last : decided ≡ 0 → RoundDone d rules literals setting k defined negated founded values′ levels′ work′ false
         round-last none =
             record {
               next = λ e. absurd (clash e refl);
               last = λ e. (
                 record {
-                  few = at .few;
-                  rows = at .rows;
-                  definedRoom = at .definedRoom;
-                  definedTells = at .definedTells;
+                  lends = at .lends;
                   negatedTells = at .negatedTells;
                   foundedRoom = at .foundedRoom;
                   foundedTells = at .foundedTells;
                   atValues = next-values ∙ still;
                   atLevels = done .stages ∙ levels-stay level values firing founded levels (levels-long ∙ sym values-long) (sym (done .changes .many) ∙ none) ∙ at .atLevels;
                   atWork = cleared;
-                  moved = at .moved;
+                  moves = at .moves;
                 },
                 still,
               );
             }
           where
             still : stage d setting (suc k) ≡ stage d setting k
-            still = no-change (length setting) rules literals setting k firing founded fired (at .foundedTells) (sym many ∙ none)
+            still = no-change (at .lends .hasRows) setting k firing founded fired (at .foundedTells) (sym many ∙ none)
 
         -- If it decides something, it comes to the next stage.
         module _ (some : decided ≡ 0 → ⊥) where
           next-levels : levels′ ≡ levelsAfter d setting (suc k)
           next-levels =
               rw (← so, at .atValues, at .atLevels) at (done .stages)
-              ∙ levels-next (length setting) rules literals setting k firing founded fired (at .foundedTells)
+              ∙ levels-next (at .lends .hasRows) setting k firing founded fired (at .foundedTells)
 
-          next-moved : (j : ℕ) → j < suc k → stage d setting (suc j) ≡ stage d setting j → ⊥
-          next-moved j l =
-              ⊎-elim (λ (e : j ≡ k). rw e (some-change (length setting) rules literals setting k firing founded fired (at .foundedTells) positive)) (λ (b : j < k). at .moved j b)
+          next-moves : (j : ℕ) → j < suc k → stage d setting (suc j) ≡ stage d setting j → ⊥
+          next-moves j l =
+              ⊎-elim (λ (e : j ≡ k). rw e (some-change (at .lends .hasRows) setting k firing founded fired (at .foundedTells) positive)) (λ (b : j < k). at .moves j b)
               (eq-or-lt-of-le (le-of-suc-le-suc l))
             where
               positive : 0 < count (length (stage d setting k)) (decides (stage d setting k) firing founded)
@@ -131,90 +130,88 @@ module _
 
           next-at :
               (founded′ : List ℕ) → length founded′ ≡ maxAtoms → Founded d (stage d setting (suc k)) founded′ →
-              RoundDone rules literals setting k defined negated founded′ values′ levels′ work′ true
+              RoundDone d rules literals setting k defined negated founded′ values′ levels′ work′ true
           next-at founded′ room tells =
               record {
                 next = λ e.
                     record {
-                      few = at .few;
-                      rows = at .rows;
-                      definedRoom = at .definedRoom;
-                      definedTells = at .definedTells;
+                      lends = at .lends;
                       negatedTells = at .negatedTells;
                       foundedRoom = room;
                       foundedTells = tells;
                       atValues = next-values;
                       atLevels = next-levels;
                       atWork = cleared;
-                      moved = next-moved;
+                      moves = next-moves;
                     };
                 last = λ e. absurd (clash refl e);
               }
 
           -- The founded marks still hold if no atom became true that occurs negated.
-          pub round-next : renewed ≡ false → RoundDone rules literals setting k defined negated founded values′ levels′ work′ true
+          pub round-next : renewed ≡ false → RoundDone d rules literals setting k defined negated founded values′ levels′ work′ true
           round-next quiet =
               next-at founded (at .foundedRoom)
-              (founded-kept (length setting) rules literals setting k
-              (quiet-round (length setting) rules literals setting k firing founded fired (at .foundedTells) negated (at .negatedTells) (at .few)
-              (rw (at .atValues) at (sym (done .changes .again) ∙ quiet))) founded (at .foundedTells))
+              (founded-kept (at .lends .hasRows) setting k firing founded negated fired (at .foundedTells) (at .negatedTells) (at .lends .few)
+              (rw (at .atValues) at (sym (done .changes .again) ∙ quiet)))
 
           -- Otherwise they are made anew.
           pub round-renewed :
               {founded′ : List ℕ} → length founded′ ≡ length founded → founded′ ≡ foundAll rules literals defined values′ founded →
-              RoundDone rules literals setting k defined negated founded′ values′ levels′ work′ true
+              RoundDone d rules literals setting k defined negated founded′ values′ levels′ work′ true
           round-renewed {founded′} long anew =
               next-at founded′ (long ∙ at .foundedRoom)
               (rw (anew, next-values)
-              (found-all (length setting) rules literals setting (suc k) (at .rows) defined founded (at .definedTells) (rw (at .foundedRoom) (at .few))))
+              (found-all d rules literals setting (suc k) (at .lends .hasRows) (at .lends .rows) defined founded (at .lends .tells)
+              (rw (at .foundedRoom) (at .lends .few))))
 
 -- ── The start and the end ──
 
+-- The slices that were handed over start at stage 0, of any definition that is lent so.
 pub stages-start :
-    {rules literals defined setting values₀ levels₀ work₀ values levels work negated founded : List ℕ} →
-    Started rules literals defined setting values₀ levels₀ work₀ → values ≡ startValues defined setting → levels ≡ replicate (length levels₀) 0 →
+    {d d₀ : Definition} {rules literals defined setting values₀ levels₀ work₀ values levels work negated founded : List ℕ} →
+    StagesReady d₀ rules literals defined setting values₀ levels₀ work₀ → Lends d rules literals defined setting →
+    values ≡ startValues defined setting → levels ≡ replicate (length levels₀) 0 →
     work ≡ replicate (length work₀) 0 → negated ≡ markWhere (occursNegated literals) (replicate maxAtoms 0) → length founded ≡ maxAtoms →
-    founded ≡ foundAll rules literals defined values (replicate maxAtoms 0) → AtStage rules literals setting 0 defined negated founded values levels work
-stages-start {rules} {literals} {defined} {setting} {values₀} {levels₀} {work₀} {values} {levels} {work} {negated} {founded} pre v l w n room f =
+    founded ≡ foundAll rules literals defined values (replicate maxAtoms 0) →
+    AtStage d rules literals setting 0 defined negated founded values levels work
+stages-start {d} {d₀} {rules} {literals} {defined} {setting} {values₀} {levels₀} {work₀} {values} {levels} {work} {negated} {founded} ready lends v l w n room f =
     record {
-      few = pre .few;
-      rows = pre .rows;
-      definedRoom = pre .definedRoom;
-      definedTells = pre .definedTells;
+      lends = lends;
       negatedTells = n;
       foundedRoom = room;
       foundedTells =
           rw (f, at-zero)
-          (found-all (length setting) rules literals setting 0 (pre .rows) defined (replicate maxAtoms 0) (pre .definedTells) (rw length-replicate (pre .few)));
+          (found-all d rules literals setting 0 (lends .hasRows) (lends .rows) defined (replicate maxAtoms 0) (lends .tells)
+          (rw length-replicate (lends .few)));
       atValues = at-zero;
-      atLevels = rw (pre .levelsLong) at l ∙ levels-start (length setting) rules literals setting;
-      atWork = rw (pre .workLong) at w;
-      moved = λ j b. absurd (not-suc-le-zero b);
+      atLevels = l ∙ rw (ready .levelsLong, lends .long) (sym (levels-start d setting));
+      atWork = w ∙ rw (ready .workLong, lends .long);
+      moves = λ j b. absurd (not-suc-le-zero b);
     }
   where
-    at-zero : values ≡ stage (definitionOf (length setting) rules literals) setting 0
-    at-zero = v ∙ start-stage (length setting) rules literals setting defined (pre .definedTells) refl
+    at-zero : values ≡ stage d setting 0
+    at-zero = v ∙ start-stage d defined setting (lends .tells) (lends .long)
 
 -- A round's answer: on to the next stage, or all rounds are done.
 module _
-    {rules literals setting : List ℕ} {k : ℕ} {defined negated founded values levels work : List ℕ} {again : Bool}
-    (done : RoundDone rules literals setting k defined negated founded values levels work again)
+    {d : Definition} {rules literals setting : List ℕ} {k : ℕ} {defined negated founded values levels work : List ℕ} {again : Bool}
+    (done : RoundDone d rules literals setting k defined negated founded values levels work again)
   where
-    pub stages-turn : again ≡ true → AtStage rules literals setting (k + 1) defined negated founded values levels work
+    pub stages-turn : again ≡ true → AtStage d rules literals setting (k + 1) defined negated founded values levels work
     stages-turn e = rw add-one (done .next e)
 
-    pub stages-end : again ≡ false → RoundsDone rules literals setting values levels work k
+    pub stages-end : again ≡ false → RoundsDone d setting values levels work k
     unfolding wellFoundedModel
     stages-end e =
         record {
-          model = at .atValues ∙ ap (stage (definitionOf (length setting) rules literals) setting) many;
-          stages = at .atLevels ∙ ap (levelsAfter (definitionOf (length setting) rules literals) setting) many ∙ levels-end (length setting) rules literals setting;
-          cleared = at .atWork;
+          model = at .atValues ∙ ap (stage d setting) many;
+          stages = at .atLevels ∙ ap (levelsAfter d setting) many ∙ levels-end d setting;
+          cleared = rw (at .lends .long) (at .atWork);
           many = many;
         }
       where
-        at : AtStage rules literals setting k defined negated founded values levels work
+        at : AtStage d rules literals setting k defined negated founded values levels work
         at = done .last e .0
 
-        many : k ≡ closure (definitionOf (length setting) rules literals) setting
-        many = rest-is-closure (length setting) rules literals setting k (at .moved) (done .last e .1)
+        many : k ≡ closure d setting
+        many = rest-is-closure d setting k (at .moves) (done .last e .1)

@@ -2,31 +2,25 @@
 -- Assumes nothing.
 use Prim.Native.Nat.{ℕ, zero, suc, _<_}
 use mathlib.Core.Path.{_≡_, refl, sym}
-use mathlib.Core.Logic.{_⊎_, inl, inr}
 use mathlib.Core.Bool.{Bool, true, not, cond, _&&_}
-use mathlib.Core.List.{List, [], _∷_, List·Memᴰ, List·Memᴰ·head, List·Memᴰ·tail, List·Memᴰ·not-nil, List·Memᴰ·cases-cons}
-use native.Mathlib.Nat.{le-of-suc-le-suc, not-suc-le-zero}
+use mathlib.Core.List.{List}
 use native.Mathlib.Omega.{arith}
 use lib.Dec.{eqb, ltb}
 use lib.ListN.{length, getD}
 use borrow.Author.Tests.{ne-eqb, lt-ltb}
 use Rattle.wellfounded.specs.Lists.{anyBelow}
-use Rattle.wellfounded.specs.Literals.{isHeld, valueAt, atomOf, isNegated}
+use Rattle.wellfounded.specs.Literals.{valueAt, atomOf, isNegated}
 use Rattle.wellfounded.proofs.Tests.{both, first, second, same-test}
-use Rattle.wellfounded.proofs.Lists.{any-use, any-make, anyBelow-use, anyBelow-make}
-use Rattle.tables.specs.Marks.{isMarked}
-use Rattle.rounds.specs.Rounds.{badStart, occursNegated}
+use Rattle.wellfounded.proofs.Lists.{entry-member, member-entry, any-use, any-make, anyBelow-use, anyBelow-make}
+use Rattle.tables.specs.Values.{notHeld}
+use Rattle.tables.proofs.MarkLaws.{not-held-at}
+use Rattle.tables.specs.internal.Marks.{isMarked}
+use Rattle.rounds.specs.internal.Starting.{badStart, occursNegated}
 use Rattle.wellfounded.proofs.Literals.{value-at}
 
 above-zero : (v : ℕ) → not (eqb v 0) ≡ ltb 0 v
 above-zero zero = refl
 above-zero (suc v) = rw (ne-eqb (suc v) 0 (λ e. omega arith), lt-ltb 0 (suc v) (omega arith))
-
-above-one : (v : ℕ) → not (isHeld v) ≡ ltb 1 v
-unfolding isHeld
-above-one zero = refl
-above-one (suc zero) = refl
-above-one (suc (suc v)) = sym (lt-ltb 1 (suc (suc v)) (omega arith))
 
 -- The value of stage 0.
 abbrev pub startAt : List ℕ → List ℕ → ℕ → ℕ
@@ -40,8 +34,8 @@ module _ (defined setting : List ℕ) (atom : ℕ) where
     bad-defined e marked = rw (e, marked, value-at setting atom within) (above-zero (getD setting atom 0))
 
     pub bad-open : most ≡ 1 → (getD defined atom 0 ≡ 1 → ⊥) → badStart defined setting atom ≡ ltb most (getD setting atom 0)
-    unfolding badStart isMarked
-    bad-open e unmarked = rw (e, ne-eqb _ _ unmarked, value-at setting atom within) (above-one (getD setting atom 0))
+    unfolding badStart isMarked notHeld
+    bad-open e unmarked = rw (e, ne-eqb _ _ unmarked) (not-held-at setting atom within)
 
   pub start-defined : getD defined atom 0 ≡ 1 → 2 ≡ startAt defined setting atom
   unfolding isMarked
@@ -51,27 +45,11 @@ module _ (defined setting : List ℕ) (atom : ℕ) where
   unfolding isMarked
   start-open within unmarked = rw (ne-eqb _ _ unmarked, value-at setting atom within)
 
--- The members of a list are its entries.
-module _ {A : Type 0} (z : A) where
-  pub entry-member : (xs : List A) (k : ℕ) → k < length xs → List·Memᴰ (getD xs k z) xs
-  entry-member [] k l = absurd (not-suc-le-zero l)
-  entry-member (x ∷ xs) zero l = List·Memᴰ·head refl
-  entry-member (x ∷ xs) (suc k) l = List·Memᴰ·tail (entry-member xs k (le-of-suc-le-suc l))
-
-  pub member-entry : (xs : List A) {x : A} → List·Memᴰ x xs → (k : ℕ) × (k < length xs) × (x ≡ getD xs k z)
-  member-entry [] m = absurd (List·Memᴰ·not-nil m)
-  member-entry (y ∷ ys) {x} m = step (λ there. member-entry ys there) (List·Memᴰ·cases-cons m)
-    where
-      step :
-          (List·Memᴰ x ys → (k : ℕ) × (k < length ys) × (x ≡ getD ys k z)) → (x ≡ y) ⊎ List·Memᴰ x ys →
-          (k : ℕ) × (k < suc (length ys)) × (x ≡ getD (y ∷ ys) k z)
-      step later (inl e) = (zero, omega arith, e)
-      step later (inr there) = let found = later there in (suc (found .0), omega (arith, found .1), found .2)
-
 -- An atom occurs negated if it does at some place of the table.
 pub negated-places :
     (literals : List ℕ) (atom : ℕ) →
-    anyBelow (length literals) (λ place. eqb (atomOf (getD literals place 0)) atom && isNegated (getD literals place 0)) ≡ occursNegated literals atom
+    anyBelow (length literals)
+    (λ place. eqb (atomOf (getD literals place 0)) atom && isNegated (getD literals place 0)) ≡ occursNegated literals atom
 unfolding occursNegated
 negated-places literals atom =
     same-test _ _

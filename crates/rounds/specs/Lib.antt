@@ -1,2 +1,2 @@
--- The steps of a round, and rounds until nothing changes.
-pub mod Rounds
+-- Rounds from stage to stage. All of it is internal: the exported calls promise what the theory says.
+pub mod internal

@@ -3,10 +3,11 @@ ghost use mathlib.Core.Path.{_≡_};
 ghost use Prim.Native.Nat.{_<_};
 ghost use lib.ListN.{length};
 ghost use Rattle.tables.specs.Rows.{ruleCount};
-ghost use Rattle.tables.specs.Scans.{RulesScannable};
-ghost use Rattle.tables.specs.Marks.{markWhere};
-ghost use Rattle.founding.specs.Founding.{Markable};
-ghost use Rattle.rounds.specs.Rounds.{rowFires, firesBy, Decidable, AtomDecided, Decided};
+ghost use Rattle.tables.specs.internal.Scans.{RulesScannable};
+ghost use Rattle.tables.specs.internal.Marks.{markWhere};
+ghost use Rattle.founding.specs.internal.Founding.{Markable};
+ghost use Rattle.rounds.specs.internal.Firing.{rowFires, firesBy};
+ghost use Rattle.rounds.specs.internal.Deciding.{Decidable, AtomDecided, RoundDecided};
 use tables::rows::rule_count;
 use tables::rows::rule_head;
 use tables::rows::rule_size;
@@ -101,7 +102,7 @@ pub fn decide(
     levels: &mut [u16],
 ) -> Changed
     requires { ⌜ Decidable (now founded) (now negated) (now firing) (now values) (now levels) ⌝ }
-    ensures { λ r. ⌜ Decided level (now (founded .entry)) (now (negated .entry)) (now (firing .entry)) (now (values .entry)) (now (levels .entry))
+    ensures { λ r. ⌜ RoundDecided level (now (founded .entry)) (now (negated .entry)) (now (firing .entry)) (now (values .entry)) (now (levels .entry))
         (r .decided) (r .renewed) (now (values .exit)) (now (levels .exit)) ⌝ }
 {
     let mut decided = 0;

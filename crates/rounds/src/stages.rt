@@ -2,13 +2,15 @@
 ghost use mathlib.Core.Path.{_≡_};
 ghost use Prim.Native.Nat.{ℕ, suc};
 ghost use mathlib.Core.List.{List};
-ghost use Rattle.rounds.specs.Rounds.{AtStage, RoundDone, RoundsDone, Roomy, Started};
+ghost use Rattle.wellfounded.specs.Definitions.{Definition};
+ghost use Rattle.rounds.specs.internal.Rounds.{AtStage, RoundDone, RoundsDone, RoundFits, StagesReady};
 use super::rounds::decide;
 use super::rounds::mark_firing;
 use super::setting::clear;
 use super::setting::mark_negated;
 use super::setting::start_values;
 use founding::mark_founded;
+use tables::sizes::MAX_ATOMS;
 
 // One round: marks what fires, then decides it together with what is not founded, at the level. Answers whether anything
 // changed. The founded marks are made anew only if an atom became true that occurs negated: otherwise they still hold.
@@ -23,12 +25,12 @@ fn round(
     levels: &mut [u16],
     work: &mut [u16],
 ) -> bool
-    requires { ⌜ Roomy (now rules) (now literals) (now defined) (now negated) (now founded) (now values) (now levels) (now work) ⌝ }
-    ensures { λ r. ⌜ ((setting : List ℕ) (k : ℕ) →
-        AtStage (now (rules .entry)) (now (literals .entry)) setting k (now (defined .entry)) (now (negated .entry))
+    requires { ⌜ RoundFits (now rules) (now literals) (now defined) (now negated) (now founded) (now values) (now levels) (now work) ⌝ }
+    ensures { λ r. ⌜ ((d : Definition) (setting : List ℕ) (k : ℕ) →
+        AtStage d (now (rules .entry)) (now (literals .entry)) setting k (now (defined .entry)) (now (negated .entry))
         (now (founded .entry)) (now (values .entry)) (now (levels .entry)) (now (work .entry)) →
         suc k ≡ level →
-        RoundDone (now (rules .entry)) (now (literals .entry)) setting k (now (defined .entry)) (now (negated .entry))
+        RoundDone d (now (rules .entry)) (now (literals .entry)) setting k (now (defined .entry)) (now (negated .entry))
         (now (founded .exit)) (now (values .exit)) (now (levels .exit)) (now (work .exit)) r) ⌝ }
 {
     mark_firing(rules, literals, values, work);
@@ -45,7 +47,7 @@ fn round(
     true
 }
 
-// Evaluates a sound book at a setting: values become the model, levels the stages, work all 0. Answers the rounds.
+// Evaluates a definition, whose rules stand in the rows, at a setting: values become the model, levels the stages, work all 0. Answers the rounds.
 pub fn evaluate_stages(
     rules: &[u16],
     literals: &[u16],
@@ -55,15 +57,18 @@ pub fn evaluate_stages(
     levels: &mut [u16],
     work: &mut [u16],
 ) -> usize
-    requires { ⌜ Started (now rules) (now literals) (now defined) (now setting) (now values) (now levels) (now work) ⌝ }
-    ensures { λ r. ⌜ RoundsDone (now (rules .entry)) (now (literals .entry)) (now (setting .entry)) (now (values .exit)) (now (levels .exit)) (now (work .exit)) r ⌝ }
+    requires { ⌜ ((d : Definition) × StagesReady d (now rules) (now literals) (now defined) (now setting) (now values) (now levels) (now work)) ⌝ }
+    ensures { λ r. ⌜ ((d : Definition) →
+        StagesReady d (now (rules .entry)) (now (literals .entry)) (now (defined .entry)) (now (setting .entry))
+        (now (values .entry)) (now (levels .entry)) (now (work .entry)) →
+        RoundsDone d (now (setting .entry)) (now (values .exit)) (now (levels .exit)) (now (work .exit)) r) ⌝ }
 {
     start_values(defined, setting, values);
     clear(levels);
     clear(work);
-    let mut negated = [0u8; 1024];
+    let mut negated = [0u8; MAX_ATOMS];
     mark_negated(literals, &mut negated);
-    let mut founded = [0u8; 1024];
+    let mut founded = [0u8; MAX_ATOMS];
     mark_founded(rules, literals, defined, values, &mut founded);
     let mut rounds: usize = 0;
     while round(

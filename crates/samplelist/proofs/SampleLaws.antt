@@ -8,18 +8,22 @@ use native.Mathlib.Omega.{arith}
 use lib.Dec.{leb}
 use lib.ListN.{length, getD, take}
 use lib.Seq.{take-append-seam}
-use Rattle.forms.specs.Entries.{over}
+use Rattle.forms.specs.Contents.{over}
+use Rattle.forms.proofs.OverLaws.{sets-front}
 use borrow.Author.Tests.{leb-true, le-leb}
 use Rattle.wellfounded.proofs.Tests.{first, second}
 use Rattle.wellfounded.specs.Lists.{all}
-use Rattle.page.specs.Pages.{pageSize, Puts}
+use Rattle.page.specs.Pages.{pageSize}
+use Rattle.page.specs.internal.Putting.{Puts}
 use Rattle.report.specs.Reports.{reportOf, Reported}
-use Rattle.report.proofs.ReportLaws.{report-size, held, front}
+use Rattle.report.proofs.ReportLaws.{report-size, front}
 use Rattle.samplelist.specs.Samples.{bytes, prints, bookA, samples, texts, textAt, pageAt}
 use Rattle.samplelist.proofs.Samples.{samples-hold}
 
 -- A text that was put is that of a sample if the sample has this text.
-pub put-as : {i k : ℕ} {told before afterwards : List ℕ} {r : ℕ} → i ≡ k → textAt k ≡ told → Puts before 0 told r afterwards → Puts before 0 (textAt i) r afterwards
+pub put-as :
+    {i k : ℕ} {text before afterwards : List ℕ} {r : ℕ} → i ≡ k → textAt k ≡ text → Puts before 0 text r afterwards →
+    Puts before 0 (textAt i) r afterwards
 put-as e t p = rw (e, t) p
 
 -- No text is longer than the buffer that it is put into.
@@ -44,14 +48,16 @@ unfolding textAt pageAt texts samples
 page-holds i h = sym (mapped texts i h) ∙ ap (λ (l : List (List ℕ)). getD l i []) samples-hold
 
 -- What stands at the front of the buffer is the text.
-pub text-front : (i : ℕ) {before afterwards : List ℕ} {r : ℕ} → 200 ≤ length before → Puts before 0 (textAt i) r afterwards → take (r - 0) afterwards ≡ textAt i
+pub text-front :
+    (i : ℕ) {before afterwards : List ℕ} {r : ℕ} → 200 ≤ length before → Puts before 0 (textAt i) r afterwards →
+    take (r - 0) afterwards ≡ textAt i
 text-front i {before = before} {r = r} l p =
-    rw (p .stored) (rw (held (textAt i) before (omega (arith, text-short i, l))) (front (textAt i) before r (omega (arith, p .answered))))
+    rw (p .stored) (rw (sets-front before (textAt i) (omega (arith, text-short i, l))) (front (textAt i) before r (omega (arith, p .answered))))
 
 -- What the report then writes is the page.
 pub page-front :
-    (i : ℕ) {text before afterwards : List ℕ} {r : ℕ} → i < 12 → pageSize ≤ length before → text ≡ textAt i → Reported text before r afterwards →
-    (take r afterwards ≡ pageAt i) × (r ≤ 19487)
+    (i : ℕ) {text before afterwards : List ℕ} {r : ℕ} → i < 12 → pageSize ≤ length before → text ≡ textAt i →
+    Reported text before r afterwards → (take r afterwards ≡ pageAt i) × (r ≤ pageSize)
 unfolding over
 page-front i {text} {before} {r = r} h l e reported =
     let t : leb pageSize (length before) ≡ true = le-leb pageSize (length before) l in
@@ -62,17 +68,17 @@ page-front i {text} {before} {r = r} h l e reported =
 -- The last sample is the one that is none of the others.
 abbrev pub NoneBefore : ℕ → Type 0
 NoneBefore i =
-    ((((((((((Unit {0} × (i ≡ 0 → ⊥)) × (i ≡ 1 → ⊥)) × (i ≡ 2 → ⊥)) × (i ≡ 3 → ⊥)) × (i ≡ 4 → ⊥)) × (i ≡ 5 → ⊥)) × (i ≡ 6 → ⊥)) × (i ≡ 7 → ⊥)) × (i ≡ 8 → ⊥)) ×
-    (i ≡ 9 → ⊥)) × (i ≡ 10 → ⊥)
+    ((((((((((Unit {0} × (i ≡ 0 → ⊥)) × (i ≡ 1 → ⊥)) × (i ≡ 2 → ⊥)) × (i ≡ 3 → ⊥)) × (i ≡ 4 → ⊥)) × (i ≡ 5 → ⊥))
+    × (i ≡ 6 → ⊥)) × (i ≡ 7 → ⊥)) × (i ≡ 8 → ⊥)) × (i ≡ 9 → ⊥)) × (i ≡ 10 → ⊥)
 
-beyond : {i : ℕ} (k : ℕ) → k ≤ i → (i ≡ k → ⊥) → suc k ≤ i
-beyond k l n = omega arith
+at-least : {i : ℕ} (k : ℕ) → k ≤ i → (i ≡ k → ⊥) → suc k ≤ i
+at-least k l n = omega arith
 
 at-most : (i : ℕ) → i < 12 → 11 ≤ i → i ≡ 11
 at-most i h l = omega arith
 
 pub last : (i : ℕ) → i < 12 → NoneBefore i → i ≡ 11
 last i h (((((((((((u, n0), n1), n2), n3), n4), n5), n6), n7), n8), n9), n10) =
-    let five : 5 ≤ i = beyond 4 (beyond 3 (beyond 2 (beyond 1 (beyond 0 (omega arith) n0) n1) n2) n3) n4 in
-    let eleven : 11 ≤ i = beyond 10 (beyond 9 (beyond 8 (beyond 7 (beyond 6 (beyond 5 five n5) n6) n7) n8) n9) n10 in
+    let five : 5 ≤ i = at-least 4 (at-least 3 (at-least 2 (at-least 1 (at-least 0 (omega arith) n0) n1) n2) n3) n4 in
+    let eleven : 11 ≤ i = at-least 10 (at-least 9 (at-least 8 (at-least 7 (at-least 6 (at-least 5 five n5) n6) n7) n8) n9) n10 in
     at-most i h eleven

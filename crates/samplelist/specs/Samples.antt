@@ -48,7 +48,8 @@ samples =
     -- P9
     prints (bytes "(atoms 1)\n(rule 0)\n(claim (1 2))\n") "(refused 22 0)\n" ∷
     -- P10
-    prints (bytes "(atoms 4)\n(rule 1 0)\n(rule 1 2)\n(rule 2 1)\n(rule 3 (not 1))\n(clause 1 3)\n(load 0 9 (60 3))\n(open)\n") "(made 2)\n(atom 0 0 0)\n(atom 1 0 1)\n(atom 2 0 1)\n(atom 3 1 2)\n(refused 27 0)\n" ∷
+    prints (bytes "(atoms 4)\n(rule 1 0)\n(rule 1 2)\n(rule 2 1)\n(rule 3 (not 1))\n(clause 1 3)\n" ++ bytes "(load 0 9 (60 3))\n(open)\n")
+    "(made 2)\n(atom 0 0 0)\n(atom 1 0 1)\n(atom 2 0 1)\n(atom 3 1 2)\n(refused 27 0)\n" ∷
     []
 
 -- The texts, and the pages.

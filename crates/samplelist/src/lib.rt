@@ -3,7 +3,8 @@ ghost use Prim.Native.Nat.{_≤_, _<_};
 ghost use mathlib.Core.Path.{_≡_};
 ghost use mathlib.Core.List.{_++_};
 ghost use lib.ListN.{length, take};
-ghost use Rattle.page.specs.Pages.{Puts};
+ghost use Rattle.page.specs.Pages.{pageSize};
+ghost use Rattle.page.specs.internal.Putting.{Puts};
 ghost use Rattle.samplelist.specs.Samples.{bookA, textAt, pageAt};
 use page::put;
 use report::report;
@@ -16,12 +17,12 @@ fn put_book_a(buffer: &mut [u8], state: &[u8]) -> usize
     requires { ⌜ length (now state) ≤ 1000 ⌝ }
     ensures { λ r. ⌜ Puts (now (buffer .entry)) 0 (bookA ++ now (state .entry)) r (now (buffer .exit)) ⌝ }
 {
-    let told = put(
+    let after_book = put(
         buffer,
         0,
         b"(atoms 4)\n(rule 1 0)\n(rule 1 2)\n(rule 2 1)\n(rule 3 (not 1))\n(clause 1 3)\n(load 0 10 (60 3))\n",
     );
-    put(buffer, told, state)
+    put(buffer, after_book, state)
 }
 
 // Puts the text of a sample at the front of the buffer, and answers its length.
@@ -59,8 +60,8 @@ fn put_text(sample: usize, buffer: &mut [u8]) -> usize
 
 // Puts the report of a sample's text at the front of the page, and answers its length.
 pub fn put_sample_page(sample: usize, page: &mut [u8]) -> usize
-    requires { ⌜ (sample < 12) × (19487 ≤ length (now page)) ⌝ }
-    ensures { λ r. ⌜ (take r (now (page .exit)) ≡ pageAt sample) × (r ≤ 19487) ⌝ }
+    requires { ⌜ (sample < 12) × (pageSize ≤ length (now page)) ⌝ }
+    ensures { λ r. ⌜ (take r (now (page .exit)) ≡ pageAt sample) × (r ≤ pageSize) ⌝ }
 {
     let mut text = [0u8; 200];
     let length = put_text(sample, &mut text);

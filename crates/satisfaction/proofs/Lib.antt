@@ -2,3 +2,5 @@
 pub mod Tenths
 pub mod LoadLaws
 pub mod Satisfied
+pub mod Positions
+pub mod Computes

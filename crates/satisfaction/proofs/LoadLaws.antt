@@ -19,10 +19,11 @@ use Rattle.wellfounded.specs.Literals.{literalTrue}
 use Rattle.wellfounded.proofs.Tests.{first, second, both}
 use Rattle.wellfounded.proofs.Scan.{part-is}
 use Rattle.tables.specs.Loads.{Load, loadCount, loadLow, loadHigh, loadStart, loadSize, loadAt, termAt, termsAt}
-use Rattle.tables.specs.Scans.{LoadsScannable}
+use Rattle.tables.specs.internal.Scans.{LoadsScannable}
 use Rattle.tables.proofs.Signs.{magnitude-negated, magnitude-sum, magnitude-fits}
 use Rattle.satisfaction.specs.Tenths.{roundTenth, tenths}
-use Rattle.satisfaction.specs.Satisfied.{Counted, termCount, loadSum, loadHolds, TermsScannable}
+use Rattle.satisfaction.specs.Satisfied.{termCount, loadSum, loadHolds}
+use Rattle.satisfaction.specs.internal.Terms.{SmallCount, TermsScannable, mostTenths}
 
 -- ── Tenths ──
 
@@ -30,8 +31,8 @@ minutes-magnitude : (z : ℤ) → SFits w16 z → natAbs z ≤ 32768
 minutes-magnitude (pos n) f = omega arith
 minutes-magnitude (negsuc n) f = omega arith
 
-pub minutes-small : {z : ℤ} → SFits w16 z → natAbs z ≤ 32768
-minutes-small {z} f = minutes-magnitude z f
+pub minutes-most : {z : ℤ} → SFits w16 z → natAbs z ≤ 32768
+minutes-most {z} f = minutes-magnitude z f
 
 negative-counts : (z : ℤ) → ltZ z (pos 0) ≡ true → tenths z ≡ pos 0 -ℤ pos (roundTenth (natAbs z))
 unfolding tenths
@@ -50,7 +51,7 @@ negative-tenths {z} fits h = negative-counts z (rw (toZ-ofZ fits) at h)
 pub other-tenths : {z : ℤ} → SFits w16 z → ltZ (toZ w16 (ofZ w16 z)) (pos 0) ≡ false → tenths z ≡ pos (roundTenth (natAbs z))
 other-tenths {z} fits h = others-count z (rw (toZ-ofZ fits) at h)
 
-pub round-small : (n : ℕ) → n ≤ 32768 → roundTenth n ≤ 5461
+pub round-small : (n : ℕ) → n ≤ 32768 → roundTenth n ≤ mostTenths
 unfolding roundTenth
 round-small n l = omega arith
 
@@ -59,15 +60,17 @@ unfolding tenths
 tenths-magnitude (pos n) = refl
 tenths-magnitude (negsuc n) = magnitude-negated (pos (roundTenth (suc n)))
 
-pub tenths-small : {z : ℤ} → SFits w16 z → natAbs (tenths z) ≤ 5461
-tenths-small {z} f = rw (tenths-magnitude z) (round-small _ (minutes-small f))
+pub tenths-small : {z : ℤ} → SFits w16 z → natAbs (tenths z) ≤ mostTenths
+tenths-small {z} f = rw (tenths-magnitude z) (round-small _ (minutes-most f))
 
 -- A small answer is read back from its bits as it is.
-pub counted-back : {count answer : ℤ} → Counted count answer → Counted count (toZ w32 (ofZ w32 answer))
+pub counted-back : {count answer : ℤ} → SmallCount count answer → SmallCount count (toZ w32 (ofZ w32 answer))
 counted-back {count} {answer} c = rw (toZ-ofZ (magnitude-fits answer (omega (arith, c .small)))) c
 
 module _ (values literals : List ℕ) (minutes : List ℤ) (place : ℕ) where
-  term-true : literalTrue values (getD literals place 0) ≡ true → termCount values (termAt literals minutes place) ≡ tenths (getD minutes place (pos 0))
+  term-true :
+      literalTrue values (getD literals place 0) ≡ true →
+      termCount values (termAt literals minutes place) ≡ tenths (getD minutes place (pos 0))
   unfolding termCount termAt
   term-true h = rw h
 
@@ -77,8 +80,9 @@ module _ (values literals : List ℕ) (minutes : List ℤ) (place : ℕ) where
 
   -- The code multiplies by the literal's truth, 0 or 1.
   pub term-times :
-      {count : ℤ} (holds : Bool) → holds ≡ literalTrue values (getD literals place 0) → Counted (tenths (getD minutes place (pos 0))) count →
-      Counted (termCount values (termAt literals minutes place)) (count *ℤ toZ w32 (boolByte holds))
+      {count : ℤ} (holds : Bool) → holds ≡ literalTrue values (getD literals place 0) →
+      SmallCount (tenths (getD minutes place (pos 0))) count →
+      SmallCount (termCount values (termAt literals minutes place)) (count *ℤ toZ w32 (boolByte holds))
   unfolding one
   term-times {count} true h c = rw (term-true (sym h), *ℤ-one count) c
   term-times {count} false h c = rw (term-false (sym h), *ℤ-zero count) (record { is = refl; small = omega arith })
@@ -122,15 +126,16 @@ module _ (literals : List ℕ) (minutes : List ℤ) (start size : ℕ) where
 -- ── What a scan needs ──
 
 pub row-scannable :
-    {loads : List ℤ} {literals : List ℕ} {minutes : List ℤ} {atoms : ℕ} (row : ℕ) → row < loadCount loads → LoadsScannable loads literals minutes atoms →
+    {loads : List ℤ} {literals : List ℕ} {minutes : List ℤ} {atoms : ℕ} (row : ℕ) →
+    row < loadCount loads → LoadsScannable loads literals minutes atoms →
     TermsScannable literals minutes (loadStart loads row) (loadSize loads row) atoms
 row-scannable row l s =
     record { within = s .within row l; known = s .known; paired = s .paired; few = omega (arith, s .within row l, s .few) }
 
-pub part-scannable :
+pub terms-part :
     {literals : List ℕ} {minutes : List ℤ} {start size atoms : ℕ} → TermsScannable literals minutes start size atoms →
     TermsScannable (take (length literals - start) (drop start literals)) (take (length minutes - start) (drop start minutes)) 0 size atoms
-part-scannable {literals} {minutes} {start} s =
+terms-part {literals} {minutes} {start} s =
     rw (part-is literals start, part-is minutes start) (record {
       within = rw length-drop (omega (arith, s .within));
       known = λ place l. rw getD-drop (s .known (start + place) (omega (arith, rw length-drop at l)));
@@ -149,14 +154,14 @@ term-scannable h s = record { within = omega (arith, s .within); known = s .know
 pub record Summed (values literals : List ℕ) (minutes : List ℤ) (size i : ℕ) (sum : ℤ) : Type 0 where
   pub low : i ≤ size
   pub rest : sum +ℤ loadSum values (termsAt literals minutes i (size - i)) ≡ loadSum values (termsAt literals minutes 0 size)
-  pub small : natAbs sum ≤ 5461 * i
+  pub small : natAbs sum ≤ mostTenths * i
 
 module _ {values literals : List ℕ} {minutes : List ℤ} {size : ℕ} where
   pub sum-start : Summed values literals minutes size 0 (pos 0)
   sum-start = record { low = omega arith; rest = let e : size - 0 ≡ size = omega arith in rw (e, +ℤ-idl); small = omega arith }
 
   pub sum-turn :
-      {i : ℕ} {sum count : ℤ} → i < size → Counted (termCount values (termAt literals minutes i)) count →
+      {i : ℕ} {sum count : ℤ} → i < size → SmallCount (termCount values (termAt literals minutes i)) count →
       Summed values literals minutes size i sum → Summed values literals minutes size (i + 1) (sum +ℤ count)
   unfolding loadSum
   sum-turn {i} {sum} {count} h c s =
@@ -166,7 +171,8 @@ module _ {values literals : List ℕ} {minutes : List ℤ} {size : ℕ} where
         small = omega (arith, s .small, c .small, magnitude-sum sum count);
       }
 
-  pub sum-end : {i : ℕ} {sum : ℤ} → size ≤ i → Summed values literals minutes size i sum → sum ≡ loadSum values (termsAt literals minutes 0 size)
+  pub sum-end :
+      {i : ℕ} {sum : ℤ} → size ≤ i → Summed values literals minutes size i sum → sum ≡ loadSum values (termsAt literals minutes 0 size)
   unfolding loadSum
   sum-end {i} h s = rw (terms-empty literals minutes i size h, +ℤ-idr) at (s .rest)
 
@@ -183,13 +189,15 @@ meets : {a b : ℤ} → a ≤ℤ b → leZ a b ≡ true
 meets {a} {b} h = test-true (leZ a b) (h .le)
 
 module _ (values : List ℕ) (load : Load) where
-  pub load-holds-use : loadHolds values load ≡ true → (load .low ≤ℤ loadSum values (load .terms)) × (loadSum values (load .terms) ≤ℤ load .high)
+  pub load-holds-use :
+      loadHolds values load ≡ true → (load .low ≤ℤ loadSum values (load .terms)) × (loadSum values (load .terms) ≤ℤ load .high)
   unfolding loadHolds
   load-holds-use h =
       let low = leZ (load .low) (loadSum values (load .terms)) in
       let high = leZ (loadSum values (load .terms)) (load .high) in
       (passed (first low high h), passed (second low high h))
 
-  pub load-holds-make : (load .low ≤ℤ loadSum values (load .terms)) × (loadSum values (load .terms) ≤ℤ load .high) → loadHolds values load ≡ true
+  pub load-holds-make :
+      (load .low ≤ℤ loadSum values (load .terms)) × (loadSum values (load .terms) ≤ℤ load .high) → loadHolds values load ≡ true
   unfolding loadHolds
   load-holds-make h = both _ _ (meets (h .0)) (meets (h .1))

@@ -18,11 +18,13 @@ use Rattle.tables.proofs.Faults.{absent-none, absent-more}
 use Rattle.satisfaction.proofs.LoadLaws.{load-holds-use, load-holds-make}
 
 -- A clause holds exactly if one of its literals is true.
-pub clause-holds-use : (values clause : List ℕ) → clauseHolds values clause ≡ true → (l : ℕ) × List·Memᴰ l clause × (literalTrue values l ≡ true)
+pub clause-holds-use :
+    (values clause : List ℕ) → clauseHolds values clause ≡ true → (l : ℕ) × List·Memᴰ l clause × (literalTrue values l ≡ true)
 unfolding clauseHolds
 clause-holds-use values clause h = any-use (literalTrue values) clause h
 
-pub clause-holds-make : (values clause : List ℕ) → (l : ℕ) × List·Memᴰ l clause × (literalTrue values l ≡ true) → clauseHolds values clause ≡ true
+pub clause-holds-make :
+    (values clause : List ℕ) → (l : ℕ) × List·Memᴰ l clause × (literalTrue values l ≡ true) → clauseHolds values clause ≡ true
 unfolding clauseHolds
 clause-holds-make values clause found = any-make (literalTrue values) clause (found .1) (found .2)
 

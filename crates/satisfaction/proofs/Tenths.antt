@@ -51,9 +51,9 @@ tenths-negated (negsuc n) = sym (negℤ-negℤ (pos (roundTenth (suc n))))
 
 -- ── The nearest ──
 
-over : (m : ℕ) → NearestTenth (pos m) (tenths (pos m))
+nearest-over : (m : ℕ) → NearestTenth (pos m) (tenths (pos m))
 unfolding tenths roundTenth
-over m = record { nearest = nearest; awayFromZero = away }
+nearest-over m = record { nearest = nearest; awayFromZero = away }
   where
     nearest : (other : ℤ) → distance (pos m) (tenths (pos m)) ≤ distance (pos m) other
     nearest (pos k) = omega (arith, distance-over m (roundTenth m), distance-over m k)
@@ -76,8 +76,8 @@ module _ (m t : ℤ) (n : NearestTenth m t) where
       }
 
 pub tenths-nearest : (minutes : ℤ) → NearestTenth minutes (tenths minutes)
-tenths-nearest (pos m) = over m
-tenths-nearest (negsuc m) = rw (tenths-negated (pos (suc m))) (mirror (pos (suc m)) (tenths (pos (suc m))) (over (suc m)))
+tenths-nearest (pos m) = nearest-over m
+tenths-nearest (negsuc m) = rw (tenths-negated (pos (suc m))) (mirror (pos (suc m)) (tenths (pos (suc m))) (nearest-over (suc m)))
 
 -- The paper's examples: 3 minutes count 1, 2 minutes 0, 15 minutes 3, -3 minutes -1.
 pub worked-tenths : map tenths (pos 3 ∷ pos 2 ∷ pos 15 ∷ negsuc 2 ∷ []) ≡ pos 1 ∷ pos 0 ∷ pos 3 ∷ negsuc 0 ∷ []

@@ -1,15 +1,13 @@
 -- Clauses and load lines that hold, and the faults 26 and 27.
-use Prim.Native.Nat.{ℕ, _+_, _≤_, _<_}
+use Prim.Native.Nat.{ℕ, _+_, _≤_}
 use mathlib.Core.Path.{_≡_}
 use mathlib.Core.Bool.{Bool, true, not, cond, _&&_}
 use mathlib.Core.List.{List, [], _∷_, List·Memᴰ}
-use lib.IntN.{ℤ, pos, natAbs, _+ℤ_}
+use lib.IntN.{ℤ, pos, _+ℤ_}
 use lib.Signed.{leZ, _≤ℤ_}
-use lib.ListN.{length, getD}
 use Rattle.wellfounded.specs.Lists.{any}
-use Rattle.wellfounded.specs.Literals.{atomOf, literalTrue}
+use Rattle.wellfounded.specs.Literals.{literalTrue}
 use Rattle.tables.specs.declared.Fault.the-variants.{FailingClause, FailingLoad}
-use Rattle.tables.specs.Limits.{maxTerms}
 use Rattle.tables.specs.Faults.{Test}
 use Rattle.tables.specs.Rows.{clauseCount, clauseAt, clausesOf}
 use Rattle.tables.specs.Loads.{Term, Load, loadCount, loadAt, loadsOf}
@@ -32,11 +30,6 @@ loadSum values (t ∷ ts) = termCount values t +ℤ loadSum values ts
 unfoldable pub loadHolds : List ℕ → Load → Bool
 loadHolds values load = leZ (load .low) (loadSum values (load .terms)) && leZ (loadSum values (load .terms)) (load .high)
 
--- What a function answers for the count of one term, and that it is small: no 16-bit number of minutes counts more than 5,461 tenths.
-pub record Counted (count answer : ℤ) : Type 0 where
-  pub is : answer ≡ count
-  pub small : natAbs answer ≤ 5461
-
 -- The values satisfy a book's clauses and load lines.
 pub record Satisfies (t : Tables) (values : List ℕ) : Type 0 where
   -- Each clause has a true literal.
@@ -57,7 +50,8 @@ unfoldable pub failingLoad : List ℤ → List ℕ → List ℤ → List ℕ →
 failingLoad loads loadLiterals minutes values row = not (loadHolds values (loadAt loads loadLiterals minutes row))
 
 unfoldable pub clauseTest : List ℕ → List ℕ → List ℕ → Test
-clauseTest clauses literals values = record { fault = FailingClause; positions = clauseCount clauses; bad = failingClause clauses literals values }
+clauseTest clauses literals values =
+    record { fault = FailingClause; positions = clauseCount clauses; bad = failingClause clauses literals values }
 
 unfoldable pub loadTest : List ℤ → List ℕ → List ℤ → List ℕ → Test
 loadTest loads loadLiterals minutes values =
@@ -65,10 +59,3 @@ loadTest loads loadLiterals minutes values =
 
 unfoldable pub satisfactionTests : Tables → List ℕ → List Test
 satisfactionTests t values = clauseTest (t .clauses) (t .literals) values ∷ loadTest (t .loads) (t .loadLiterals) (t .minutes) values ∷ []
-
--- What a scan of the terms of one row relies on; they begin at start and are size many.
-pub record TermsScannable (loadLiterals : List ℕ) (minutes : List ℤ) (start size atoms : ℕ) : Type 0 where
-  pub within : start + size ≤ length loadLiterals
-  pub known : (place : ℕ) → place < length loadLiterals → atomOf (getD loadLiterals place 0) < atoms
-  pub paired : length minutes ≡ length loadLiterals
-  pub few : size ≤ maxTerms

@@ -2,10 +2,11 @@
 ghost use mathlib.Core.Path.{_≡_};
 ghost use Prim.Native.Nat.{_<_};
 ghost use lib.ListN.{length};
-ghost use Rattle.wellfounded.specs.Literals.{bodyAt, Scannable};
+ghost use Rattle.wellfounded.specs.Literals.{bodyAt};
+ghost use Rattle.wellfounded.specs.internal.Scans.{Scannable};
 ghost use Rattle.tables.specs.Faults.{lowest};
 ghost use Rattle.tables.specs.Rows.{clauseCount};
-ghost use Rattle.tables.specs.Scans.{ClausesScannable};
+ghost use Rattle.tables.specs.internal.Scans.{ClausesScannable};
 ghost use Rattle.satisfaction.specs.Satisfied.{clauseHolds, failingClause};
 use tables::Found;
 use tables::rows::clause_count;
@@ -49,7 +50,8 @@ fn clause_row_fails(clauses: &[u16], literals: &[u16], values: &[u8], row: usize
 // The lowest clause row that fails in the values.
 pub fn failing_clause(clauses: &[u16], literals: &[u16], values: &[u8]) -> Found
     requires { ⌜ ClausesScannable (now clauses) (now literals) (length (now values)) ⌝ }
-    ensures { λ r. ⌜ r ≡ lowest (clauseCount (now (clauses .entry))) (failingClause (now (clauses .entry)) (now (literals .entry)) (now (values .entry))) ⌝ }
+    ensures { λ r. ⌜ r ≡ lowest (clauseCount (now (clauses .entry)))
+        (failingClause (now (clauses .entry)) (now (literals .entry)) (now (values .entry))) ⌝ }
 {
     let rows = clause_count(clauses);
     let mut row = 0;

@@ -3,7 +3,7 @@ ghost use mathlib.Core.Path.{_≡_};
 ghost use mathlib.Core.List.{[], _∷_};
 ghost use lib.ListN.{length};
 ghost use Rattle.tables.specs.Faults.{firstFault};
-ghost use Rattle.tables.specs.Scans.{ClausesScannable, LoadsScannable};
+ghost use Rattle.tables.specs.internal.Scans.{ClausesScannable, LoadsScannable};
 ghost use Rattle.satisfaction.specs.Satisfied.{clauseTest, loadTest};
 
 mod clauses;

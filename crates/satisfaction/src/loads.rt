@@ -5,9 +5,10 @@ ghost use lib.IntN.{natAbs};
 ghost use lib.ListN.{length};
 ghost use Rattle.tables.specs.Faults.{lowest};
 ghost use Rattle.tables.specs.Loads.{termAt, termsAt, loadAt, loadCount};
-ghost use Rattle.tables.specs.Scans.{LoadsScannable};
+ghost use Rattle.tables.specs.internal.Scans.{LoadsScannable};
 ghost use Rattle.satisfaction.specs.Tenths.{roundTenth, tenths};
-ghost use Rattle.satisfaction.specs.Satisfied.{Counted, termCount, loadSum, loadHolds, TermsScannable, failingLoad};
+ghost use Rattle.satisfaction.specs.Satisfied.{termCount, loadSum, loadHolds, failingLoad};
+ghost use Rattle.satisfaction.specs.internal.Terms.{SmallCount, TermsScannable};
 use tables::Found;
 use tables::load_rows::load_count;
 use tables::load_rows::load_size;
@@ -36,7 +37,7 @@ fn magnitude(minutes: i16) -> u32
 
 // The tenths of an hour that signed minutes count: those of their magnitude, with their sign.
 fn tenths_of(minutes: i16) -> i32
-    ensures { λ r. ⌜ Counted (tenths minutes) r ⌝ }
+    ensures { λ r. ⌜ SmallCount (tenths minutes) r ⌝ }
 {
     let rounded = round_tenth(magnitude(minutes)) as i32;
     if minutes < 0 { 0 - rounded } else { rounded }
@@ -45,7 +46,7 @@ fn tenths_of(minutes: i16) -> i32
 // What the term at a place counts in the values: its tenths times the truth of its literal, which leaves no branch.
 fn term_count(load_literals: &[u16], minutes: &[i16], place: usize, values: &[u8]) -> i32
     requires { ⌜ TermsScannable (now «load_literals») (now minutes) place 1 (length (now values)) ⌝ }
-    ensures { λ r. ⌜ Counted (termCount (now (values .entry)) (termAt (now («load_literals» .entry)) (now (minutes .entry)) place)) r ⌝ }
+    ensures { λ r. ⌜ SmallCount (termCount (now (values .entry)) (termAt (now («load_literals» .entry)) (now (minutes .entry)) place)) r ⌝ }
 {
     let counted = literal_true(load_literals[place], values) as i32;
     tenths_of(minutes[place]) * counted
@@ -82,7 +83,8 @@ fn load_holds(
     values: &[u8],
 ) -> bool
     requires { ⌜ (row < loadCount (now loads)) × LoadsScannable (now loads) (now «load_literals») (now minutes) (length (now values)) ⌝ }
-    ensures { λ r. ⌜ r ≡ loadHolds (now (values .entry)) (loadAt (now (loads .entry)) (now («load_literals» .entry)) (now (minutes .entry)) row) ⌝ }
+    ensures { λ r. ⌜ r ≡ loadHolds (now (values .entry))
+        (loadAt (now (loads .entry)) (now («load_literals» .entry)) (now (minutes .entry)) row) ⌝ }
 {
     let start = load_start(loads, row);
     let size = load_size(loads, row);
@@ -93,7 +95,8 @@ fn load_holds(
 // The lowest load row that fails in the values.
 pub fn failing_load(loads: &[i32], load_literals: &[u16], minutes: &[i16], values: &[u8]) -> Found
     requires { ⌜ LoadsScannable (now loads) (now «load_literals») (now minutes) (length (now values)) ⌝ }
-    ensures { λ r. ⌜ r ≡ lowest (loadCount (now (loads .entry))) (failingLoad (now (loads .entry)) (now («load_literals» .entry)) (now (minutes .entry)) (now (values .entry))) ⌝ }
+    ensures { λ r. ⌜ r ≡ lowest (loadCount (now (loads .entry)))
+        (failingLoad (now (loads .entry)) (now («load_literals» .entry)) (now (minutes .entry)) (now (values .entry))) ⌝ }
 {
     let rows = load_count(loads);
     let mut row = 0;

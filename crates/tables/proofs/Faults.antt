@@ -4,7 +4,8 @@ use Prim.Native.Nat.{ℕ, zero, suc, _+_, _≤_, _<_}
 use mathlib.Core.Path.{_≡_, refl, sym, ap, subst, _∙_}
 use mathlib.Core.Logic.{_⊎_, inl, inr, ⊎-elim}
 use mathlib.Core.Bool.{Bool, true, false}
-use mathlib.Core.List.{List, [], _∷_, _++_, List·Memᴰ, List·Memᴰ·head, List·Memᴰ·tail, List·Memᴰ·not-nil, List·Memᴰ·cases-cons, Memᴰ·append-right}
+use mathlib.Core.List.{List, [], _∷_, _++_, List·Memᴰ, List·Memᴰ·head, List·Memᴰ·tail, List·Memᴰ·not-nil, List·Memᴰ·cases-cons}
+use mathlib.Core.List.{Memᴰ·append-right}
 use native.Mathlib.Nat.{le-of-suc-le-suc, not-suc-le-zero, eq-or-lt-of-le}
 use native.Mathlib.Numerals.{add-one}
 use native.Mathlib.Omega.{arith}
@@ -122,7 +123,8 @@ pub first-fails : (t : Test) (ts : List Test) (p : ℕ) → lowest (t .positions
 unfolding firstFault refusedOr
 first-fails t ts p e = rw e
 
--- Where the verdict is left to a test and those after it, a search that finds the test's fault decides it, and one that finds nothing leaves it to those after.
+-- Where the verdict is left to a test and those after it, a search that finds the test's fault decides it, and one that finds nothing
+-- leaves it to those after.
 pub found-refuses :
     (ts : List Test) (t : Test) (later : List Test) (found : Found) (p : ℕ) → firstFault ts ≡ firstFault (t ∷ later) →
     found ≡ lowest (t .positions) (t .bad) → found ≡ At p → Refused (t .fault) p ≡ firstFault ts
@@ -162,7 +164,8 @@ first-cases t ts = step (lowest (t .positions) (t .bad)) refl
 pub absent-none : (t : Test) → List·Memᴰ t [] → Absent t
 absent-none t m = absurd (List·Memᴰ·not-nil m)
 
-pub absent-more : {x : Test} {xs : List Test} → Absent x → ((t : Test) → List·Memᴰ t xs → Absent t) → (t : Test) → List·Memᴰ t (x ∷ xs) → Absent t
+pub absent-more :
+    {x : Test} {xs : List Test} → Absent x → ((t : Test) → List·Memᴰ t xs → Absent t) → (t : Test) → List·Memᴰ t (x ∷ xs) → Absent t
 absent-more {x} {xs} here there t m =
     ⊎-elim (λ (first : t ≡ x). subst Absent (sym first) here) (λ (rest : List·Memᴰ t xs). there t rest) (List·Memᴰ·cases-cons m)
 
@@ -252,11 +255,14 @@ by-refused ts f p r =
     ∙ first-fails (r .test) (r .later) p (lowest-found (r .test .bad) (r .test .positions) p (r .within) (r .fails) (r .noLower))
     ∙ ap (λ (g : Fault). Refused g p) (r .isFault)
 
--- Where the verdict is left to a list of tests and those after it: what is found for the list decides it, and "accepted" leaves it to those after.
+-- Where the verdict is left to a list of tests and those after it: what is found for the list decides it, and "accepted" leaves it
+-- to those after.
 pub verdict-refuses :
-    (ts xs ys : List Test) (v : Verdict) (f : Fault) (p : ℕ) → firstFault ts ≡ firstFault (xs ++ ys) → v ≡ firstFault xs → v ≡ Refused f p → v ≡ firstFault ts
+    (ts xs ys : List Test) (v : Verdict) (f : Fault) (p : ℕ) → firstFault ts ≡ firstFault (xs ++ ys) → v ≡ firstFault xs →
+    v ≡ Refused f p → v ≡ firstFault ts
 verdict-refuses ts xs ys v f p left is refused = refused ∙ sym (left ∙ first-append-refused xs ys f p (sym is ∙ refused))
 
 pub verdict-leaves :
-    (ts xs ys : List Test) (v : Verdict) → firstFault ts ≡ firstFault (xs ++ ys) → v ≡ firstFault xs → v ≡ Accepted → firstFault ts ≡ firstFault ys
+    (ts xs ys : List Test) (v : Verdict) → firstFault ts ≡ firstFault (xs ++ ys) → v ≡ firstFault xs → v ≡ Accepted →
+    firstFault ts ≡ firstFault ys
 verdict-leaves ts xs ys v left is accepted = left ∙ first-append xs ys (sym is ∙ accepted)

@@ -1,9 +1,9 @@
 -- Laws of marks: what a mark reads, and a loop over rule rows that puts 1 at the atoms which pass a test of the row.
 -- Assumes nothing.
-use Prim.Native.Nat.{ℕ, zero, suc, _+_, _≤_, _<_}
+use Prim.Native.Nat.{ℕ, zero, suc, _+_, _<_}
 use mathlib.Core.Path.{_≡_, refl, sym, ap, subst, _∙_, fun-ext}
 use mathlib.Core.Logic.{⊎-elim}
-use mathlib.Core.Bool.{Bool, true, false, not, cond, _&&_, _||_, false≢true, or-false}
+use mathlib.Core.Bool.{Bool, true, false, not, cond, _&&_, _||_, or-false}
 use mathlib.Core.List.{List}
 use native.Mathlib.Numerals.{add-one}
 use native.Mathlib.Omega.{arith}
@@ -11,26 +11,13 @@ use lib.Dec.{eqb, ltb}
 use lib.ListN.{length, getD, set, length-set, replicate, length-replicate, getD-replicate}
 use lib.Seq.{ext-getD, getD-set-same, getD-set-other, set-getD}
 use borrow.Author.Tests.{eqb-true, eqb-false, eq-eqb, ne-eqb, lt-ltb, le-ltb}
-use Rattle.wellfounded.specs.Lists.{anyBelow, count}
+use Rattle.wellfounded.specs.Lists.{anyBelow}
 use Rattle.wellfounded.specs.Literals.{isTrue, valueAt}
-use Rattle.wellfounded.specs.Definitions.{isDefined}
 use Rattle.wellfounded.proofs.Lists.{length-tabulate, getD-tabulate, getD-default}
 use Rattle.wellfounded.proofs.Literals.{true-test, held-at}
-use Rattle.wellfounded.proofs.Tests.{decided, both, or-right}
-use Rattle.tables.specs.Rows.{headsRule, definitionOf}
-use Rattle.tables.specs.Marks.{isMarked, markWhere, notHeld}
-
-or-none : (a b : Bool) → b ≡ false → (a || b) ≡ a
-or-none true b none = refl
-or-none false b none = none
-
-and-left : (a b : Bool) → a ≡ false → (a && b) ≡ false
-and-left true b none = absurd (false≢true (sym none))
-and-left false b none = refl
-
-and-right : (a b : Bool) → b ≡ false → (a && b) ≡ false
-and-right true b none = none
-and-right false b none = refl
+use Rattle.wellfounded.proofs.Tests.{decided, both, or-right, or-none, and-left, and-right}
+use Rattle.tables.specs.internal.Marks.{isMarked, markWhere}
+use Rattle.tables.specs.Values.{notHeld}
 
 pub mark-length : (passes : ℕ → Bool) (marks : List ℕ) → length (markWhere passes marks) ≡ length marks
 unfolding markWhere
@@ -63,20 +50,14 @@ fresh-marks n passes atom l = marked-where passes (replicate n 0) atom (rw lengt
     none : (b : Bool) → (b || isMarked (replicate n 0) atom) ≡ b
     none b = rw (getD-replicate {A = ℕ} n atom 0 0 l) (or-false b)
 
--- So the marks of the heads tell who is defined.
-pub heads-tell :
-    (atoms n : ℕ) (rules literals marks : List ℕ) → atoms ≤ n → marks ≡ markWhere (headsRule rules) (replicate n 0) →
-    (atom : ℕ) → atom < atoms → isMarked marks atom ≡ isDefined (definitionOf atoms rules literals) atom
-unfolding definitionOf isDefined
-heads-tell atoms n rules literals marks room is atom l = rw (is, lt-ltb atom atoms l) (fresh-marks n (headsRule rules) atom (omega arith))
-
 -- Tests that agree make the same marks.
 pub mark-same : (p q : ℕ → Bool) (marks : List ℕ) → ((atom : ℕ) → p atom ≡ q atom) → markWhere p marks ≡ markWhere q marks
 mark-same p q marks h = ap (λ (r : ℕ → Bool). markWhere r marks) (fun-ext h)
 
 -- One more atom.
 pub mark-one :
-    (earlier later : ℕ → Bool) (marks : List ℕ) (head : ℕ) → later head ≡ true → ((atom : ℕ) → (atom ≡ head → ⊥) → later atom ≡ earlier atom) →
+    (earlier later : ℕ → Bool) (marks : List ℕ) (head : ℕ) → later head ≡ true →
+    ((atom : ℕ) → (atom ≡ head → ⊥) → later atom ≡ earlier atom) →
     set (markWhere earlier marks) head 1 ≡ markWhere later marks
 mark-one earlier later marks head now others =
     ext-getD 0 _ _ (simp (length-set, mark-length))
@@ -102,7 +83,9 @@ pub record Marked (p : ℕ → ℕ → Bool) (before : List ℕ) (n : ℕ) (mark
   pub long : length marks ≡ length before
 
 module _ (p : ℕ → ℕ → Bool) (before : List ℕ) where
-  pub marked-end : (n rows : ℕ) (marks : List ℕ) → n ≡ rows → Marked p before n marks → marks ≡ markWhere (λ atom. anyBelow rows (λ row. p row atom)) before
+  pub marked-end :
+      (n rows : ℕ) (marks : List ℕ) → n ≡ rows → Marked p before n marks →
+      marks ≡ markWhere (λ atom. anyBelow rows (λ row. p row atom)) before
   marked-end n rows marks e m = rw e at (m .is)
 
   pub marked-start : Marked p before 0 before
@@ -146,16 +129,6 @@ module _ (heads : ℕ → ℕ) (passes : ℕ → Bool) (before : List ℕ) (n : 
   row-again head e marked m =
       ⊎-elim (λ (t : passes n ≡ true). rw (set-again marks head marked) at (row-puts head e t m)) (λ (f : passes n ≡ false). row-passes f m)
       (decided (passes n))
-
--- A loop over 0, 1, 2, .. that counts those that pass a test has come to i.
-module _ (p : ℕ → Bool) (i n : ℕ) (so : n ≡ count i p) where
-  pub counted-pass : p i ≡ true → n + 1 ≡ count (i + 1) p
-  unfolding count
-  counted-pass here = rw (add-one i, here) (omega arith)
-
-  pub counted-fail : p i ≡ false → n ≡ count (i + 1) p
-  unfolding count
-  counted-fail here = rw (add-one i, here) (omega arith)
 
 -- The code's test of a value.
 pub true-at : (values : List ℕ) (atom : ℕ) → atom < length values → isTrue (valueAt values atom) ≡ eqb (getD values atom 0) 1

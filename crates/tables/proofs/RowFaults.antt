@@ -16,15 +16,15 @@ use mir.Val.{Fits, hbits, toZ, ofZ}
 use mir.Facts.{toZ-ofZ}
 use borrow.Author.Tests.{not-false, leb-true, leb-false, eqb-true, le-leb, lt-leb}
 use Rattle.wellfounded.specs.Literals.{atomOf}
-use Rattle.tables.specs.Loads.{indexOf, loadEntry, loadLow, loadHigh}
+use Rattle.tables.specs.Loads.{loadWidth, indexOf, loadEntry, loadLow, loadHigh}
 use Rattle.tables.specs.declared.Found.the-variants.{Nothing}
 use Rattle.tables.specs.Faults.{lowest}
 use Rattle.tables.specs.Sound.{sizesFit, badLiteral}
 use Rattle.tables.proofs.Faults.{lowest-nothing}
 
 -- ── Tests as the code makes them ──
-same-test : (a b c d : ℕ) → (a ≤ b → c ≤ d) → (b < a → d < c) → leb a b ≡ leb c d
-same-test a b c d passes fails = by (leb a b) refl
+same-comparison : (a b c d : ℕ) → (a ≤ b → c ≤ d) → (b < a → d < c) → leb a b ≡ leb c d
+same-comparison a b c d passes fails = by (leb a b) refl
   where
     by : (t : Bool) → leb a b ≡ t → leb a b ≡ leb c d
     by true e = e ∙ sym (le-leb c d (passes (leb-true a b e)))
@@ -33,7 +33,7 @@ same-test a b c d passes fails = by (leb a b) refl
 -- A literal of 2N or above is one whose atom is N or above.
 pub literal-beyond : (atoms literal : ℕ) → leb atoms (atomOf literal) ≡ leb (2 * atoms) literal
 unfolding atomOf
-literal-beyond atoms literal = same-test atoms (literal / 2) (2 * atoms) literal (λ h. omega arith) (λ h. omega arith)
+literal-beyond atoms literal = same-comparison atoms (literal / 2) (2 * atoms) literal (λ h. omega arith) (λ h. omega arith)
 
 -- The search for the highest literal has come to i: no literal before it is higher than `most`.
 pub record Highest (literals : List ℕ) (i most : ℕ) : Type 0 where
@@ -44,14 +44,17 @@ module _ {literals : List ℕ} where
   pub highest-start : Highest literals 0 0
   highest-start = record { low = omega arith; above = λ place l. absurd (omega arith) }
 
-  pub highest-turn : {i most more : ℕ} → i < length literals → most ≤ more → getD literals i 0 ≤ more → Highest literals i most → Highest literals (i + 1) more
+  pub highest-turn :
+      {i most more : ℕ} → i < length literals → most ≤ more → getD literals i 0 ≤ more → Highest literals i most →
+      Highest literals (i + 1) more
   highest-turn {i} {most} {more} l no-lower here h = record { low = omega arith; above = λ place below. step place (omega arith) }
     where
       step : (place : ℕ) → place ≤ i → getD literals place 0 ≤ more
       step place below =
           ⊎-elim (λ (e : place ≡ i). rw e here) (λ (earlier : place < i). omega (arith, h .above place earlier)) (eq-or-lt-of-le below)
 
-  pub highest-end : {i most : ℕ} → length literals ≤ i → Highest literals i most → (place : ℕ) → place < length literals → getD literals place 0 ≤ most
+  pub highest-end :
+      {i most : ℕ} → length literals ≤ i → Highest literals i most → (place : ℕ) → place < length literals → getD literals place 0 ≤ most
   highest-end l h place below = h .above place (omega arith)
 
 -- Where the highest literal is an atom's, each is.
@@ -67,23 +70,27 @@ pub read-back : (w : Width) (z : ℤ) → mag z < 2 ^ hbits w → toZ w (ofZ w z
 read-back w z h = toZ-ofZ (record { sfits = h })
 
 -- A magnitude above a limit, or within it, by two comparisons of the signed number.
-pub beyond : (w : Width) (m : ℕ) (z : ℤ) → mag z < 2 ^ hbits w → (ltZ (toZ w (ofZ w z)) (negsuc m) || ltZ (pos (suc m)) (toZ w (ofZ w z))) ≡ ltb (suc m) (natAbs z)
-beyond w m z h = rw (read-back w z h) (by z)
+pub magnitude-beyond :
+    (w : Width) (m : ℕ) (z : ℤ) → mag z < 2 ^ hbits w →
+    (ltZ (toZ w (ofZ w z)) (negsuc m) || ltZ (pos (suc m)) (toZ w (ofZ w z))) ≡ ltb (suc m) (natAbs z)
+magnitude-beyond w m z h = rw (read-back w z h) (by z)
   where
     by : (y : ℤ) → (ltZ y (negsuc m) || ltZ (pos (suc m)) y) ≡ ltb (suc m) (natAbs y)
     by (pos n) = refl
     by (negsuc n) = or-false _ ∙ sym (leb·suc-suc (suc m) n)
 
-pub within : (w : Width) (m : ℕ) (z : ℤ) → mag z < 2 ^ hbits w → (leZ (negsuc m) (toZ w (ofZ w z)) && leZ (toZ w (ofZ w z)) (pos (suc m))) ≡ leb (natAbs z) (suc m)
-within w m z h = rw (read-back w z h) (by z)
+pub magnitude-within :
+    (w : Width) (m : ℕ) (z : ℤ) → mag z < 2 ^ hbits w →
+    (leZ (negsuc m) (toZ w (ofZ w z)) && leZ (toZ w (ofZ w z)) (pos (suc m))) ≡ leb (natAbs z) (suc m)
+magnitude-within w m z h = rw (read-back w z h) (by z)
   where
     by : (y : ℤ) → (leZ (negsuc m) y && leZ y (pos (suc m))) ≡ leb (natAbs y) (suc m)
     by (pos n) = refl
     by (negsuc n) = and-true _ ∙ sym (leb·suc-suc n m)
 
 -- An entry of a load table that is to be an index.
-pub not-negative : (z : ℤ) → mag z < 2 ^ 31 → leZ (pos 0) (toZ w32 (ofZ w32 z)) ≡ nonNeg z
-not-negative z h = rw (read-back w32 z h) (by z)
+pub index-test : (z : ℤ) → mag z < 2 ^ 31 → leZ (pos 0) (toZ w32 (ofZ w32 z)) ≡ nonNeg z
+index-test z h = rw (read-back w32 z h) (by z)
   where
     by : (y : ℤ) → leZ (pos 0) y ≡ nonNeg y
     by (pos n) = leb·zero n
@@ -112,8 +119,8 @@ index-some z h above = let e = read-back w32 z h in rw e (by z h (rw e at above)
 
 -- Tables of fitting sizes have as many minutes as load literals.
 pub sizes-paired :
-    (atoms rules literals clauses loads loadLiterals minutes : ℕ) (fit : Bool) → fit ≡ sizesFit atoms rules literals clauses loads loadLiterals minutes →
-    not fit ≡ false → minutes ≡ loadLiterals
+    (atoms rules literals clauses loads loadLiterals minutes : ℕ) (fit : Bool) →
+    fit ≡ sizesFit atoms rules literals clauses loads loadLiterals minutes → not fit ≡ false → minutes ≡ loadLiterals
 unfolding sizesFit
 sizes-paired atoms rules literals clauses loads loadLiterals minutes fit is passed =
     eqb-true minutes loadLiterals (by (eqb minutes loadLiterals) refl (not-false fit passed))
@@ -123,10 +130,10 @@ sizes-paired atoms rules literals clauses loads loadLiterals minutes fit is pass
     by false e fits = absurd (false≢true (sym (rw (e, and-false) at is) ∙ fits))
 
 -- The bounds of a load row are its first two entries.
-pub row-low : (loads : List ℤ) (row : ℕ) → getD loads (row * 4) (pos 0) ≡ loadLow loads row
+pub row-low : (loads : List ℤ) (row : ℕ) → getD loads (row * loadWidth) (pos 0) ≡ loadLow loads row
 unfolding loadLow loadEntry
-row-low loads row = let e : row * 4 + 0 ≡ row * 4 = omega arith in rw e
+row-low loads row = let e : row * loadWidth + 0 ≡ row * loadWidth = omega arith in rw e
 
-pub row-high : (loads : List ℤ) (row : ℕ) → getD loads (row * 4 + 1) (pos 0) ≡ loadHigh loads row
+pub row-high : (loads : List ℤ) (row : ℕ) → getD loads (row * loadWidth + 1) (pos 0) ≡ loadHigh loads row
 unfolding loadHigh loadEntry
 row-high loads row = refl

@@ -20,8 +20,9 @@ use Rattle.tables.specs.declared.Verdict.the-variants.{Refused}
 use Rattle.tables.specs.Faults.{Test, Absent, firstFault}
 use Rattle.tables.specs.Rows.{ruleWidth, clauseWidth, ruleCount, ruleHead, ruleStart, ruleSize, clauseStart, clauseSize}
 use Rattle.tables.specs.Loads.{loadWidth, loadEntry}
-use Rattle.tables.specs.Sound.{Tables, sizesFit, badRuleRow, badClauseRow, goodLoadRow, badLiteral, badTerm, tableTests, sliceTest, Sizes, LoadRowFits}
-use Rattle.tables.specs.Scans.{RulesScannable, ClausesScannable, LoadsScannable}
+use Rattle.tables.specs.Sound.{Tables, sizesFit, fitsSizes, badRuleRow, badClauseRow, goodLoadRow, badLiteral, badTerm, tableTests}
+use Rattle.tables.specs.Sound.{Slice, sized, isSized, sliceTest, Sizes, LoadRowFits}
+use Rattle.tables.specs.internal.Scans.{RulesScannable, ClausesScannable, LoadsScannable}
 use Rattle.tables.proofs.Faults.{absent-nothing, first-passes, first-fails, once-fails}
 
 -- ── Each fault in words ──
@@ -41,13 +42,15 @@ pub clause-row-fault :
 unfolding badClauseRow
 clause-row-fault clauses literals row = (λ h. ltb-true _ _ h, λ past. lt-ltb _ _ past)
 
-pub literal-fault : (atoms : ℕ) (literals : List ℕ) (place : ℕ) → (badLiteral atoms literals place ≡ true) ↔ (2 * atoms ≤ getD literals place 0)
+pub literal-fault :
+    (atoms : ℕ) (literals : List ℕ) (place : ℕ) → (badLiteral atoms literals place ≡ true) ↔ (2 * atoms ≤ getD literals place 0)
 unfolding badLiteral
 literal-fault atoms literals place = (λ h. leb-true _ _ h, λ big. le-leb _ _ big)
 
 pub term-fault :
     (atoms : ℕ) (loadLiterals : List ℕ) (minutes : List ℤ) (place : ℕ) →
-    (badTerm atoms loadLiterals minutes place ≡ true) ↔ ((2 * atoms ≤ getD loadLiterals place 0) ⊎ (maxMinutes < natAbs (getD minutes place (pos 0))))
+    (badTerm atoms loadLiterals minutes place ≡ true)
+    ↔ ((2 * atoms ≤ getD loadLiterals place 0) ⊎ (maxMinutes < natAbs (getD minutes place (pos 0))))
 unfolding badTerm
 term-fault atoms loadLiterals minutes place = (
   λ h. ⊎-elim (λ l. inl (literal-fault atoms loadLiterals place .0 l)) (λ m. inr (ltb-true _ _ m)) (either _ _ h),
@@ -104,16 +107,11 @@ ten a b c d e f g h i j t k =
     (second (a && b && c && d && e) f t6) (second (a && b && c && d && e && f) g t7) (second (a && b && c && d && e && f && g) h t8)
     (second (a && b && c && d && e && f && g && h) i t9) (second (a && b && c && d && e && f && g && h && i) j t)
 
-pub sizes-fault :
-    (t : Tables) →
-    (sizesFit (t .atoms) (length (t .rules)) (length (t .literals)) (length (t .clauses)) (length (t .loads)) (length (t .loadLiterals)) (length (t .minutes)) ≡ true)
-    ↔ Sizes t
+pub sizes-fault : (t : Tables) → (fitsSizes t ≡ true) ↔ Sizes t
 unfolding sizesFit
 sizes-fault t = (taken, make)
   where
-    taken :
-        sizesFit (t .atoms) (length (t .rules)) (length (t .literals)) (length (t .clauses)) (length (t .loads)) (length (t .loadLiterals)) (length (t .minutes)) ≡ true →
-        Sizes t
+    taken : fitsSizes t ≡ true → Sizes t
     taken fit =
         ten (leb (t .atoms) maxAtoms) (leb (length (t .rules)) (maxRuleRows * ruleWidth)) (eqb (length (t .rules) % ruleWidth) 0)
         (leb (length (t .literals)) maxLiterals) (leb (length (t .clauses)) (maxClauseRows * clauseWidth)) (eqb (length (t .clauses) % clauseWidth) 0)
@@ -132,9 +130,7 @@ sizes-fault t = (taken, make)
           paired = eqb-true _ _ j;
         })
 
-    make :
-        Sizes t →
-        sizesFit (t .atoms) (length (t .rules)) (length (t .literals)) (length (t .clauses)) (length (t .loads)) (length (t .loadLiterals)) (length (t .minutes)) ≡ true
+    make : Sizes t → fitsSizes t ≡ true
     make z =
         both _ _ (both _ _ (both _ _ (both _ _ (both _ _ (both _ _ (both _ _ (both _ _ (both _ _
         (le-leb _ _ (z .fewAtoms)) (le-leb _ _ (z .fewRules))) (eq-eqb _ _ (z .wholeRules))) (le-leb _ _ (z .fewLiterals))) (le-leb _ _ (z .fewClauses)))
@@ -164,7 +160,8 @@ module _ (t : Tables) (none : (test : Test) → List·Memᴰ test (tableTests t)
     where
       fine :
           (row : ℕ) → row < ruleCount (t .rules) →
-          (ltb (length (t .literals)) (ruleStart (t .rules) row + ruleSize (t .rules) row) ≡ false) × (leb (t .atoms) (ruleHead (t .rules) row) ≡ false)
+          (ltb (length (t .literals)) (ruleStart (t .rules) row + ruleSize (t .rules) row) ≡ false)
+          × (leb (t .atoms) (ruleHead (t .rules) row) ≡ false)
       fine row l = neither _ _ (none _ (List·Memᴰ·tail (List·Memᴰ·head refl)) .nowhere row l)
 
   pub sound-clauses : ClausesScannable (t .clauses) (t .literals) (t .atoms)
@@ -187,34 +184,35 @@ module _ (t : Tables) (none : (test : Test) → List·Memᴰ test (tableTests t)
         few = sound-sizes .fewTerms;
       }
 
--- 17 does not occur exactly if every slice is N long.
-pub slices-fit : (atoms : ℕ) (lengths : List ℕ) → Absent (sliceTest atoms lengths) → (n : ℕ) → List·Memᴰ n lengths → n ≡ atoms
-unfolding sliceTest
-slices-fit atoms lengths a n m = eqb-true _ _ (all-use (λ (k : ℕ). eqb k atoms) lengths (not-false _ (a .nowhere 0 (omega arith))) m)
+-- 17 does not occur exactly if every slice has the length that it must have.
+pub slices-fit : (slices : List Slice) → Absent (sliceTest slices) → (s : Slice) → List·Memᴰ s slices → s .entries ≡ s .due
+unfolding sliceTest isSized
+slices-fit slices a s m = eqb-true _ _ (all-use isSized slices (not-false _ (a .nowhere 0 (omega arith))) m)
 
-pub slices-absent : (atoms : ℕ) (lengths : List ℕ) → ((n : ℕ) → List·Memᴰ n lengths → n ≡ atoms) → Absent (sliceTest atoms lengths)
-unfolding sliceTest
-slices-absent atoms lengths same =
-    record { nowhere = λ k l. ap not (all-make (λ (k : ℕ). eqb k atoms) lengths (λ n m. eq-eqb _ _ (same n m))) }
+pub slices-absent : (slices : List Slice) → ((s : Slice) → List·Memᴰ s slices → s .entries ≡ s .due) → Absent (sliceTest slices)
+unfolding sliceTest isSized
+slices-absent slices same = record { nowhere = λ k l. ap not (all-make isSized slices (λ s m. eq-eqb _ _ (same s m))) }
 
--- A slice of another length is the fault at 0; slices that are all N long leave the verdict to the tests after it.
+-- A slice of another length is the fault at 0; slices that all have theirs leave the verdict to the tests after it.
 pub slice-refuses :
-    (atoms : ℕ) (lengths : List ℕ) (later : List Test) (n : ℕ) → List·Memᴰ n lengths → (n ≡ atoms → ⊥) →
-    firstFault (sliceTest atoms lengths ∷ later) ≡ Refused SliceLength 0
-unfolding sliceTest
-slice-refuses atoms lengths later n m other =
-    first-fails _ later 0
-    (once-fails _ (ap not (not-both _ (λ h. other (eqb-true _ _ (all-use (λ (k : ℕ). eqb k atoms) lengths h m))))))
+    (slices : List Slice) (later : List Test) (s : Slice) → List·Memᴰ s slices → (s .entries ≡ s .due → ⊥) →
+    firstFault (sliceTest slices ∷ later) ≡ Refused SliceLength 0
+unfolding sliceTest isSized
+slice-refuses slices later s m other =
+    first-fails _ later 0 (once-fails _ (ap not (not-both _ (λ h. other (eqb-true _ _ (all-use isSized slices h m))))))
 
 pub slice-leaves :
-    (atoms : ℕ) (lengths : List ℕ) (later : List Test) → ((n : ℕ) → List·Memᴰ n lengths → n ≡ atoms) →
-    firstFault (sliceTest atoms lengths ∷ later) ≡ firstFault later
-slice-leaves atoms lengths later same = first-passes _ later (absent-nothing _ (slices-absent atoms lengths same))
+    (slices : List Slice) (later : List Test) → ((s : Slice) → List·Memᴰ s slices → s .entries ≡ s .due) →
+    firstFault (sliceTest slices ∷ later) ≡ firstFault later
+slice-leaves slices later same = first-passes _ later (absent-nothing _ (slices-absent slices same))
 
--- The members of a list of lengths, one by one.
-pub length-none : (P : ℕ → Type 0) (n : ℕ) → List·Memᴰ n [] → P n
-length-none P n m = absurd (List·Memᴰ·not-nil m)
+-- Slices of the lengths that they must have, one by one.
+pub sized-none : (s : Slice) → List·Memᴰ s [] → s .entries ≡ s .due
+sized-none s m = absurd (List·Memᴰ·not-nil m)
 
-pub length-more : (P : ℕ → Type 0) {k : ℕ} {ks : List ℕ} → P k → ((n : ℕ) → List·Memᴰ n ks → P n) → (n : ℕ) → List·Memᴰ n (k ∷ ks) → P n
-length-more P {k} {ks} here there n m =
-    ⊎-elim (λ (e : n ≡ k). subst P (sym e) here) (λ (t : List·Memᴰ n ks). there n t) (List·Memᴰ·cases-cons m)
+pub sized-more :
+    {entries due : ℕ} {slices : List Slice} → entries ≡ due → ((s : Slice) → List·Memᴰ s slices → s .entries ≡ s .due) →
+    (s : Slice) → List·Memᴰ s (sized entries due ∷ slices) → s .entries ≡ s .due
+sized-more {entries} {due} {slices} here there s m =
+    ⊎-elim (λ (e : s ≡ sized entries due). subst (λ (x : Slice). x .entries ≡ x .due) (sym e) here) (λ (t : List·Memᴰ s slices). there s t)
+    (List·Memᴰ·cases-cons m)

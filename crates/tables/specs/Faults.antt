@@ -6,8 +6,9 @@ use mathlib.Core.List.{List, [], _∷_, _++_, List·Memᴰ}
 use Rattle.tables.specs.declared.Found.{Found}
 use Rattle.tables.specs.declared.Found.the-variants.{At, Nothing}
 use Rattle.tables.specs.declared.Fault.{Fault}
-use Rattle.tables.specs.declared.Fault.the-variants.{Malformed, OutsideLimits, OutOfOrder, NoSpace, TableSizes, RuleRow, ClauseRow, LoadRow}
-use Rattle.tables.specs.declared.Fault.the-variants.{Literal, LoadTerm, SliceLength, Value, Level, Unsupported, Unblocked, Undecided, FailingClause, FailingLoad}
+use Rattle.tables.specs.declared.Fault.the-variants.{Malformed, OutsideLimits, OutOfOrder, NoSpace}
+use Rattle.tables.specs.declared.Fault.the-variants.{TableSizes, RuleRow, ClauseRow, LoadRow, Literal, LoadTerm, SliceLength}
+use Rattle.tables.specs.declared.Fault.the-variants.{Value, Level, Unsupported, Unblocked, Undecided, FailingClause, FailingLoad}
 use Rattle.tables.specs.declared.Verdict.{Verdict}
 use Rattle.tables.specs.declared.Verdict.the-variants.{Accepted, Refused}
 

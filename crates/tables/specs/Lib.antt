@@ -4,5 +4,5 @@ pub mod Faults
 pub mod Rows
 pub mod Loads
 pub mod Sound
-pub mod Scans
-pub mod Marks
+pub mod Values
+pub mod internal

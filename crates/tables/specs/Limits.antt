@@ -1,4 +1,4 @@
--- The limits of a book.
+-- The limits of a book, and of what is said of it.
 use Prim.Native.Nat.{ℕ}
 
 abbrev pub maxAtoms : ℕ
@@ -26,3 +26,14 @@ maxMinutes = 1440
 
 abbrev pub maxBound : ℕ
 maxBound = 1000000
+
+-- A value and a level of a claim, as a text may write them.
+abbrev pub maxValue : ℕ
+maxValue = 255
+
+abbrev pub maxLevel : ℕ
+maxLevel = 65535
+
+-- The highest position of a verdict: it has 16 bits.
+abbrev pub maxPosition : ℕ
+maxPosition = 65535

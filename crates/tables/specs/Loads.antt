@@ -50,7 +50,11 @@ termsAt loadLiterals minutes start size = tabulate size (λ k. termAt loadLitera
 
 unfoldable pub loadAt : List ℤ → List ℕ → List ℤ → ℕ → Load
 loadAt loads loadLiterals minutes row =
-    record { low = loadLow loads row; high = loadHigh loads row; terms = termsAt loadLiterals minutes (loadStart loads row) (loadSize loads row) }
+    record {
+      low = loadLow loads row;
+      high = loadHigh loads row;
+      terms = termsAt loadLiterals minutes (loadStart loads row) (loadSize loads row);
+    }
 
 unfoldable pub loadsOf : List ℤ → List ℕ → List ℤ → List Load
 loadsOf loads loadLiterals minutes = tabulate (loadCount loads) (loadAt loads loadLiterals minutes)

@@ -1,6 +1,5 @@
 -- Rows of the rule and clause tables, and what they stand for. Row layouts are defined here and nowhere else.
-use Prim.Native.Nat.{ℕ, _+_, _*_, _/_, _<_}
-use mathlib.Core.Path.{_≡_}
+use Prim.Native.Nat.{ℕ, _+_, _*_, _/_}
 use mathlib.Core.Bool.{Bool}
 use mathlib.Core.List.{List}
 use lib.Dec.{eqb}
@@ -8,11 +7,6 @@ use lib.ListN.{length, getD}
 use Rattle.wellfounded.specs.Lists.{anyBelow, tabulate}
 use Rattle.wellfounded.specs.Literals.{bodyAt}
 use Rattle.wellfounded.specs.Definitions.{Rule, Definition}
-
--- What a function answers for a field of a row, and how small it is.
-pub record Field (bound field answer : ℕ) : Type 0 where
-  pub is : answer ≡ field
-  pub small : answer < bound
 
 -- A rule row is three numbers: head, start, count.
 abbrev pub ruleWidth : ℕ
@@ -39,10 +33,11 @@ ruleAt rules literals row = record { head = ruleHead rules row; body = ruleBody 
 unfoldable pub rulesOf : List ℕ → List ℕ → List Rule
 rulesOf rules literals = tabulate (ruleCount rules) (ruleAt rules literals)
 
--- An atom that heads some rule is defined.
+-- An atom that heads some rule is defined, every other is open.
 unfoldable pub headsRule : List ℕ → ℕ → Bool
 headsRule rules atom = anyBelow (ruleCount rules) (λ row. eqb (ruleHead rules row) atom)
 
+-- The definition that the rule rows make over so many atoms.
 unfoldable pub definitionOf : ℕ → List ℕ → List ℕ → Definition
 definitionOf atoms rules literals = record { size = atoms; defined = headsRule rules; rules = rulesOf rules literals }
 

@@ -12,7 +12,8 @@ use Rattle.wellfounded.specs.Definitions.{Definition}
 use Rattle.tables.specs.declared.Fault.the-variants.{TableSizes, RuleRow, ClauseRow, LoadRow, Literal, LoadTerm, SliceLength}
 use Rattle.tables.specs.Limits.{maxAtoms, maxRuleRows, maxClauseRows, maxLiterals, maxLoadRows, maxTerms, maxMinutes, maxBound}
 use Rattle.tables.specs.Faults.{Test, Absent}
-use Rattle.tables.specs.Rows.{ruleWidth, ruleCount, ruleHead, ruleStart, ruleSize, definitionOf, clauseWidth, clauseCount, clauseStart, clauseSize}
+use Rattle.tables.specs.Rows.{ruleWidth, ruleCount, ruleHead, ruleStart, ruleSize, definitionOf}
+use Rattle.tables.specs.Rows.{clauseWidth, clauseCount, clauseStart, clauseSize}
 use Rattle.tables.specs.Loads.{loadWidth, loadCount, loadEntry, loadLow, loadHigh, loadStart, loadSize}
 
 -- All that is lent for a book: N and six tables.
@@ -27,19 +28,32 @@ pub record Tables : Type 0 where
 
 unfoldable pub lent : ℕ → List ℕ → List ℕ → List ℕ → List ℤ → List ℕ → List ℤ → Tables
 lent atoms rules literals clauses loads loadLiterals minutes =
-    record { atoms = atoms; rules = rules; literals = literals; clauses = clauses; loads = loads; loadLiterals = loadLiterals; minutes = minutes }
+    record {
+      atoms = atoms;
+      rules = rules;
+      literals = literals;
+      clauses = clauses;
+      loads = loads;
+      loadLiterals = loadLiterals;
+      minutes = minutes;
+    }
 
 -- The definition that a book's rules make.
 unfoldable pub bookOf : Tables → Definition
 bookOf t = definitionOf (t .atoms) (t .rules) (t .literals)
 
--- 11: N and every table are within their limits, tables of rows have whole rows, and there are as many minutes as load literals.
+-- 11 is absent: N and every table are within their limits, tables of rows have whole rows, and there are as many minutes as load literals.
 -- The arguments are N and the tables' lengths.
 unfoldable pub sizesFit : ℕ → ℕ → ℕ → ℕ → ℕ → ℕ → ℕ → Bool
 sizesFit atoms rules literals clauses loads loadLiterals minutes =
     leb atoms maxAtoms && leb rules (maxRuleRows * ruleWidth) && eqb (rules % ruleWidth) 0 && leb literals maxLiterals
     && leb clauses (maxClauseRows * clauseWidth) && eqb (clauses % clauseWidth) 0 && leb loads (maxLoadRows * loadWidth)
     && eqb (loads % loadWidth) 0 && leb loadLiterals maxTerms && eqb minutes loadLiterals
+
+abbrev pub fitsSizes : Tables → Bool
+fitsSizes t =
+    sizesFit (t .atoms) (length (t .rules)) (length (t .literals)) (length (t .clauses)) (length (t .loads)) (length (t .loadLiterals))
+    (length (t .minutes))
 
 -- 12: a rule row past the end of the literal table, or a head of N or above.
 unfoldable pub badRuleRow : ℕ → List ℕ → ℕ → ℕ → Bool
@@ -49,7 +63,7 @@ badRuleRow atoms rules literals row = ltb literals (ruleStart rules row + ruleSi
 unfoldable pub badClauseRow : List ℕ → ℕ → ℕ → Bool
 badClauseRow clauses literals row = ltb literals (clauseStart clauses row + clauseSize clauses row)
 
--- 14: a load row past the end of the load literals, a negative start or count, or bounds out of range.
+-- 14 is absent from a load row: start and count are not negative, it ends within the load literals, and its bounds are in range.
 unfoldable pub goodLoadRow : List ℤ → ℕ → ℕ → Bool
 goodLoadRow loads terms row =
     nonNeg (loadEntry loads row 2) && nonNeg (loadEntry loads row 3) && leb (loadStart loads row + loadSize loads row) terms
@@ -66,11 +80,7 @@ badTerm atoms loadLiterals minutes place = badLiteral atoms loadLiterals place |
 -- The faults of the tables, in the order in which they are looked for.
 unfoldable pub tableTests : Tables → List Test
 tableTests t =
-    record {
-      fault = TableSizes;
-      positions = 1;
-      bad = λ k. not (sizesFit (t .atoms) (length (t .rules)) (length (t .literals)) (length (t .clauses)) (length (t .loads)) (length (t .loadLiterals)) (length (t .minutes)));
-    }
+    record { fault = TableSizes; positions = 1; bad = λ k. not (fitsSizes t) }
     ∷ record { fault = RuleRow; positions = ruleCount (t .rules); bad = badRuleRow (t .atoms) (t .rules) (length (t .literals)) }
     ∷ record { fault = ClauseRow; positions = clauseCount (t .clauses); bad = badClauseRow (t .clauses) (length (t .literals)) }
     ∷ record { fault = LoadRow; positions = loadCount (t .loads); bad = λ row. not (goodLoadRow (t .loads) (length (t .loadLiterals)) row) }
@@ -78,14 +88,25 @@ tableTests t =
     ∷ record { fault = LoadTerm; positions = length (t .loadLiterals); bad = badTerm (t .atoms) (t .loadLiterals) (t .minutes) }
     ∷ []
 
--- 17: another lent slice not N long, by the slices' lengths.
-unfoldable pub sliceTest : ℕ → List ℕ → Test
-sliceTest atoms lengths = record { fault = SliceLength; positions = 1; bad = λ k. not (all (λ n. eqb n atoms) lengths) }
+-- Another lent slice: how many entries it has, and how many it must have.
+pub record Slice : Type 0 where
+  pub entries : ℕ
+  pub due : ℕ
 
--- Tables are sound if neither they nor the slices lent with them, of these lengths, have a fault of 11 to 17.
-pub record Sound (t : Tables) (lengths : List ℕ) : Type 0 where
+abbrev pub sized : ℕ → ℕ → Slice
+sized entries due = record { entries = entries; due = due }
+
+unfoldable pub isSized : Slice → Bool
+isSized s = eqb (s .entries) (s .due)
+
+-- 17: another lent slice that has not the length that it must have.
+unfoldable pub sliceTest : List Slice → Test
+sliceTest slices = record { fault = SliceLength; positions = 1; bad = λ k. not (all isSized slices) }
+
+-- Tables are sound if neither they nor the slices lent with them have a fault of 11 to 17.
+pub record Sound (t : Tables) (others : List Slice) : Type 0 where
   pub tables : (test : Test) → List·Memᴰ test (tableTests t) → Absent test
-  pub slices : Absent (sliceTest (t .atoms) lengths)
+  pub slices : Absent (sliceTest others)
 
 -- What the sizes of sound tables are.
 pub record Sizes (t : Tables) : Type 0 where

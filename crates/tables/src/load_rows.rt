@@ -8,7 +8,7 @@ ghost use lib.IntN.{pos, natAbs};
 ghost use lib.Signed.{leZ, nonNeg};
 ghost use lib.ListN.{length, getD};
 ghost use Rattle.tables.specs.Limits.{maxBound};
-ghost use Rattle.tables.specs.Rows.{Field};
+ghost use Rattle.tables.specs.internal.Fields.{Field};
 ghost use Rattle.tables.specs.Loads.{indexOf, loadCount, loadStart, loadSize, loadLow, loadHigh};
 ghost use Rattle.tables.specs.Sound.{goodLoadRow};
 

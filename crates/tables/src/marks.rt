@@ -4,7 +4,7 @@ ghost use Prim.Native.Nat.{ℕ, _≤_, _<_};
 ghost use lib.ListN.{length};
 ghost use Rattle.wellfounded.specs.Lists.{count};
 ghost use Rattle.tables.specs.Rows.{ruleCount, ruleHead, headsRule};
-ghost use Rattle.tables.specs.Marks.{isMarked, markWhere};
+ghost use Rattle.tables.specs.internal.Marks.{isMarked, markWhere};
 use super::rows::rule_count;
 use super::rows::rule_head;
 

@@ -18,9 +18,8 @@ use super::rows::rule_count;
 use super::rows::rule_head;
 use super::rows::rule_size;
 use super::rows::rule_start;
+use super::sizes::MAX_MINUTES;
 use wellfounded::atom_of;
-
-const MAX_MINUTES: i16 = 1440;
 
 fn rule_row_is_bad(atoms: usize, rules: &[u16], literals: usize, row: usize) -> bool
     requires { ⌜ row < ruleCount (now rules) ⌝ }
@@ -124,7 +123,8 @@ fn term_is_bad(atoms: usize, load_literals: &[u16], minutes: &[i16], place: usiz
 // The lowest place of a load literal that is no atom's or of minutes out of range, in use or not.
 pub fn bad_term(atoms: usize, load_literals: &[u16], minutes: &[i16]) -> Found
     requires { ⌜ length (now minutes) ≡ length (now «load_literals») ⌝ }
-    ensures { λ r. ⌜ r ≡ lowest (length (now («load_literals» .entry))) (badTerm atoms (now («load_literals» .entry)) (now (minutes .entry))) ⌝ }
+    ensures { λ r. ⌜ r ≡ lowest (length (now («load_literals» .entry)))
+        (badTerm atoms (now («load_literals» .entry)) (now (minutes .entry))) ⌝ }
 {
     let mut place = 0;
     while place < load_literals.len() {

@@ -2,7 +2,8 @@
 ghost use mathlib.Core.Path.{_≡_};
 ghost use Prim.Native.Nat.{_<_};
 ghost use lib.ListN.{length, getD};
-ghost use Rattle.tables.specs.Rows.{Field, ruleCount, ruleHead, ruleStart, ruleSize, clauseCount, clauseStart, clauseSize};
+ghost use Rattle.tables.specs.Rows.{ruleCount, ruleHead, ruleStart, ruleSize, clauseCount, clauseStart, clauseSize};
+ghost use Rattle.tables.specs.internal.Fields.{Field};
 
 // Entries in a row.
 pub const RULE_WIDTH: usize = 3;

@@ -16,15 +16,27 @@ use super::rows::RULE_WIDTH;
 
 pub const MAX_ATOMS: usize = 1024;
 
-pub const MAX_RULE_ENTRIES: usize = 6144;
+const MAX_RULE_ROWS: usize = 2048;
 
-pub const MAX_CLAUSE_ENTRIES: usize = 4096;
+pub const MAX_RULE_ENTRIES: usize = MAX_RULE_ROWS * RULE_WIDTH;
+
+const MAX_CLAUSE_ROWS: usize = 2048;
+
+pub const MAX_CLAUSE_ENTRIES: usize = MAX_CLAUSE_ROWS * CLAUSE_WIDTH;
 
 pub const MAX_LITERALS: usize = 16384;
 
-pub const MAX_LOAD_ENTRIES: usize = 256;
+const MAX_LOAD_ROWS: usize = 64;
+
+pub const MAX_LOAD_ENTRIES: usize = MAX_LOAD_ROWS * LOAD_WIDTH;
 
 pub const MAX_TERMS: usize = 4096;
+
+pub const MAX_MINUTES: i16 = 1440;
+
+pub const MAX_VALUE: usize = 255;
+
+pub const MAX_LEVEL: usize = 65535;
 
 // The number of atoms and the tables' lengths are within their limits, with whole rows and as many minutes as load literals.
 fn sizes_fit(
@@ -60,7 +72,8 @@ pub fn table_fault(
     load_literals: &[u16],
     minutes: &[i16],
 ) -> Verdict
-    ensures { λ r. ⌜ r ≡ firstFault (tableTests (lent atoms (now (rules .entry)) (now (literals .entry)) (now (clauses .entry)) (now (loads .entry)) (now («load_literals» .entry)) (now (minutes .entry)))) ⌝ }
+    ensures { λ r. ⌜ r ≡ firstFault (tableTests (lent atoms (now (rules .entry)) (now (literals .entry)) (now (clauses .entry))
+        (now (loads .entry)) (now («load_literals» .entry)) (now (minutes .entry)))) ⌝ }
 {
     if !sizes_fit(
         atoms,

@@ -2,7 +2,7 @@
 ghost use mathlib.Core.Path.{_≡_};
 ghost use lib.ListN.{length};
 ghost use Rattle.tables.specs.Faults.{lowest};
-ghost use Rattle.tables.specs.Marks.{notHeld};
+ghost use Rattle.tables.specs.Values.{notHeld};
 use super::Found;
 
 // The lowest atom whose value is neither 0 nor 1.

@@ -25,16 +25,16 @@ module _ (d : Definition) (setting : List ℕ) where
   level-is-stage a below = getD-tabulate _ _ a 0 below
 
   -- A decided defined atom has a stage k + 1 that holds it, with its value in the model, and stage k does not.
-  record Decided (a : ℕ) : Type 0 where
+  record DecidedAt (a : ℕ) : Type 0 where
     before : ℕ
     at : stageOf d setting a ≡ suc before
     first : isHeld (valueAt (stage d setting before) a) ≡ false
     value : valueAt (stage d setting (suc before)) a ≡ valueAt (wellFoundedModel d setting) a
 
-  decided-at : (a : ℕ) → isDefined d a ≡ true → isHeld (valueAt (wellFoundedModel d setting) a) ≡ true → Decided a
+  decided-at : (a : ℕ) → isDefined d a ≡ true → isHeld (valueAt (wellFoundedModel d setting) a) ≡ true → DecidedAt a
   decided-at a h held = step (stageOf d setting a) refl (stageOf-range d setting a h held .0)
     where
-      step : (k : ℕ) → stageOf d setting a ≡ k → 1 ≤ stageOf d setting a → Decided a
+      step : (k : ℕ) → stageOf d setting a ≡ k → 1 ≤ stageOf d setting a → DecidedAt a
       step zero e l = absurd (omega arith)
       step (suc k) e l =
           record {
@@ -57,7 +57,7 @@ module _ (d : Definition) (setting : List ℕ) where
   unfolding fires bodyTrue
   true-supported a h t = ⊎-elim (λ b. absurd (clash (true-held _ b) (when .first))) rule (next-true-from d (stage d setting k) a now)
     where
-      when : Decided a
+      when : DecidedAt a
       when = decided-at a h (true-held _ t)
 
       k : ℕ
@@ -86,7 +86,7 @@ module _ (d : Definition) (setting : List ℕ) where
       (l : ℕ) × List·Memᴰ l (r .body) × Blocks d (wellFoundedModel d setting) (stagesOf d setting) a l
   false-blocked a h f r m e = ⊎-elim (λ b. absurd (clash (false-held _ b) (when .first))) rule (next-false-from d (stage d setting k) a now)
     where
-      when : Decided a
+      when : DecidedAt a
       when = decided-at a h (false-held _ f)
 
       k : ℕ

@@ -8,7 +8,7 @@ use mathlib.Core.List.{List, List·Memᴰ}
 use lib.Dec.{ltb, eqb}
 use borrow.Author.Tests.{ltb-true, lt-ltb, eqb-true, eq-eqb, not-true}
 use Rattle.wellfounded.specs.Definitions.{Rule, Definition, isDefined, isOpen, someRule, everyRule, fires}
-use Rattle.wellfounded.proofs.Tests.{clash, both, first, second, implied, imply}
+use Rattle.wellfounded.proofs.Tests.{clash, not-both, both, first, second, implied, imply}
 use Rattle.wellfounded.proofs.Lists.{all-use, all-make, any-use, any-make}
 
 module _ (d : Definition) (a : ℕ) where
@@ -31,6 +31,9 @@ module _ (d : Definition) (a : ℕ) where
   pub defined-not-open : isDefined d a ≡ true → isOpen d a ≡ true → ⊥
   unfolding isDefined isOpen
   defined-not-open h k = clash (second (ltb a (d .size)) _ h) (not-true _ (second (ltb a (d .size)) _ k))
+
+  pub open-not-defined : isOpen d a ≡ true → isDefined d a ≡ false
+  open-not-defined h = not-both _ (λ t. defined-not-open t h)
 
   module _ (p : List ℕ → Bool) where
     pub someRule-use : someRule d a p ≡ true → (r : Rule) × List·Memᴰ r (d .rules) × (r .head ≡ a) × (p (r .body) ≡ true)

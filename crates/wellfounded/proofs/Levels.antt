@@ -12,9 +12,9 @@ use Rattle.wellfounded.specs.Literals.{isTrue, isFalse, valueAt, atomOf,
 use Rattle.wellfounded.specs.Definitions.{Rule, Definition, isDefined, isOpen, definedCount}
 use Rattle.wellfounded.specs.Levels.{levelAt, Supports, Blocks, byOpen, byPositive, byNegated, Obeys}
 use Rattle.wellfounded.specs.Levels.{supports, blocks, levelInRange, isSupported, isBlocked, obeysAt, accepts}
-use Rattle.wellfounded.proofs.Tests.{not-both, both, first, second, or-left, or-right, implied, imply}
+use Rattle.wellfounded.proofs.Tests.{both, first, second, or-left, or-right, implied, imply}
 use Rattle.wellfounded.proofs.Lists.{all-use, all-make, any-use, any-make, allBelow-use, allBelow-make}
-use Rattle.wellfounded.proofs.Definitions.{defined-below, open-below, defined-or-open, defined-not-open}
+use Rattle.wellfounded.proofs.Definitions.{defined-below, open-below, defined-or-open, open-not-defined}
 use Rattle.wellfounded.proofs.Definitions.{someRule-use, someRule-make, everyRule-use, everyRule-make}
 
 -- A test of three alternatives, and one of three parts.
@@ -92,9 +92,6 @@ module _ (d : Definition) (values levels : List ℕ) (atom : ℕ) where
   isBlocked-make b =
       everyRule-make d atom (any (blocks d values levels atom))
       (λ r m e. any-make _ _ (b r m e .1) (blocks-make (b r m e .0) (b r m e .2)))
-
-open-not-defined : (d : Definition) (atom : ℕ) → isOpen d atom ≡ true → isDefined d atom ≡ false
-open-not-defined d atom o = not-both _ (λ t. defined-not-open d atom t o)
 
 module _ (d : Definition) (levels : List ℕ) (atom : ℕ) where
   pub levelInRange-open : levelInRange d levels atom ≡ true → isOpen d atom ≡ true → levelAt levels atom ≡ 0

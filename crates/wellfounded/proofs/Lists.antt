@@ -6,6 +6,7 @@ use mathlib.Core.Logic.{_⊎_, inl, inr, ⊎-elim}
 use mathlib.Core.Bool.{Bool, true, false, cond, false≢true}
 use mathlib.Core.List.{List, [], _∷_, List·Memᴰ, List·Memᴰ·head, List·Memᴰ·tail, List·Memᴰ·not-nil, List·Memᴰ·cases-cons}
 use native.Mathlib.Nat.{le-of-suc-le-suc, not-suc-le-zero, eq-or-lt-of-le, add-zero, add-suc}
+use native.Mathlib.Numerals.{add-one}
 use native.Mathlib.Omega.{arith}
 use lib.Dec.{eqb, leb}
 use lib.ListN.{length, getD, replicate}
@@ -39,6 +40,17 @@ module _ {A : Type 0} where
   any-make p [] m h = absurd (List·Memᴰ·not-nil m)
   any-make p (y ∷ ys) {x} m h =
       ⊎-elim (λ (e : x ≡ y). or-left (p y) _ (ap p (sym e) ∙ h)) (λ (n : List·Memᴰ x ys). or-right (p y) _ (any-make p ys n h)) (List·Memᴰ·cases-cons m)
+
+  -- Tests that agree on the members.
+  pub all-same : (p q : A → Bool) (xs : List A) → ((x : A) → List·Memᴰ x xs → p x ≡ q x) → all p xs ≡ all q xs
+  unfolding all
+  all-same p q [] h = refl
+  all-same p q (y ∷ ys) h = rw (h y (List·Memᴰ·head refl), all-same p q ys (λ x m. h x (List·Memᴰ·tail m)))
+
+  pub any-same : (p q : A → Bool) (xs : List A) → ((x : A) → List·Memᴰ x xs → p x ≡ q x) → any p xs ≡ any q xs
+  unfolding any
+  any-same p q [] h = refl
+  any-same p q (y ∷ ys) h = rw (h y (List·Memᴰ·head refl), any-same p q ys (λ x m. h x (List·Memᴰ·tail m)))
 
   pub length-tabulate : (n : ℕ) (f : ℕ → A) → length (tabulate n f) ≡ n
   unfolding tabulate
@@ -122,6 +134,29 @@ module _ {A : Type 0} where
       settled (inr l) (inl e) = e
       settled (inr l) (inr t) = absurd (omega arith)
 
+-- Functions that agree make the same list.
+pub tabulate-same : (n : ℕ) (f g : ℕ → ℕ) → ((a : ℕ) → a < n → f a ≡ g a) → tabulate n f ≡ tabulate n g
+unfolding tabulate
+tabulate-same zero f g h = refl
+tabulate-same (suc n) f g h = rw (h zero (omega arith), tabulate-same n (λ a. f (suc a)) (λ a. g (suc a)) (λ a l. h (suc a) (omega arith)))
+
+-- The members of a list are its entries.
+module _ {A : Type 0} (z : A) where
+  pub entry-member : (xs : List A) (k : ℕ) → k < length xs → List·Memᴰ (getD xs k z) xs
+  entry-member [] k l = absurd (not-suc-le-zero l)
+  entry-member (x ∷ xs) zero l = List·Memᴰ·head refl
+  entry-member (x ∷ xs) (suc k) l = List·Memᴰ·tail (entry-member xs k (le-of-suc-le-suc l))
+
+  pub member-entry : (xs : List A) {x : A} → List·Memᴰ x xs → (k : ℕ) × (k < length xs) × (x ≡ getD xs k z)
+  member-entry [] m = absurd (List·Memᴰ·not-nil m)
+  member-entry (y ∷ ys) {x} m = step (λ there. member-entry ys there) (List·Memᴰ·cases-cons m)
+    where
+      step :
+          (List·Memᴰ x ys → (k : ℕ) × (k < length ys) × (x ≡ getD ys k z)) → (x ≡ y) ⊎ List·Memᴰ x ys →
+          (k : ℕ) × (k < suc (length ys)) × (x ≡ getD (y ∷ ys) k z)
+      step later (inl e) = (zero, omega arith, e)
+      step later (inr there) = let found = later there in (suc (found .0), omega (arith, found .1), found .2)
+
 pub le-or-lt : (m n : ℕ) → (m ≤ n) ⊎ (n < m)
 le-or-lt m n = ⊎-elim (λ (e : leb m n ≡ true). inl (leb-true m n e)) (λ (e : leb m n ≡ false). inr (leb-false m n e)) (decided (leb m n))
 
@@ -192,6 +227,49 @@ count-falls (suc n) p q h = step (count-falls n p q (λ k l. h k (omega arith)))
     step (inr l) false true ep eq imp = absurd (clash (imp eq) ep)
     step (inr l) false false ep eq imp = inr (rw (ep, eq) (omega arith))
 
+-- A count above 0 has counted a number, and one that has counted a number is above 0.
+pub count-use : (n : ℕ) (p : ℕ → Bool) → 0 < count n p → (a : ℕ) × (a < n) × (p a ≡ true)
+unfolding count
+count-use zero p h = absurd (omega arith)
+count-use (suc n) p h = step (p n) refl (λ t. count-use n p t) h
+  where
+    step :
+        (b : Bool) → p n ≡ b → (0 < count n p → (a : ℕ) × (a < n) × (p a ≡ true)) → 0 < cond b 1 0 + count n p →
+        (a : ℕ) × (a < suc n) × (p a ≡ true)
+    step true e earlier t = (n, omega arith, e)
+    step false e earlier t = let found = earlier (omega arith) in (found .0, omega (arith, found .1), found .2)
+
+pub count-make : (n : ℕ) (p : ℕ → Bool) (a : ℕ) → a < n → p a ≡ true → 0 < count n p
+unfolding count
+count-make zero p a l h = absurd (omega arith)
+count-make (suc n) p a l h = ⊎-elim (λ (b : n ≤ a). here (omega arith)) (λ (b : a < n). omega (arith, count-make n p a b h)) (le-or-lt n a)
+  where
+    here : a ≡ n → 0 < cond (p n) 1 0 + count n p
+    here e = rw (← e, h) (omega arith)
+
+-- Tests that differ at one number.
+pub count-flip :
+    (n : ℕ) (p q : ℕ → Bool) (k : ℕ) → k < n → p k ≡ true → q k ≡ false → ((j : ℕ) → (j ≡ k → ⊥) → q j ≡ p j) → 1 + count n q ≡ count n p
+unfolding count
+count-flip zero p q k l pk qk others = absurd (not-suc-le-zero l)
+count-flip (suc n) p q k l pk qk others =
+    ⊎-elim
+    (λ (here : k ≡ n).
+    rw (← here, pk, qk, here, count-same n q p (λ j b. others j (λ e. omega arith))) (omega arith))
+    (λ (below : k < n).
+    rw (others n (λ e. omega arith), ← count-flip n p q k below pk qk others) (omega arith))
+    (eq-or-lt-of-le (le-of-suc-le-suc l))
+
+-- A loop over 0, 1, 2, .. that counts those that pass a test has come to i.
+module _ (p : ℕ → Bool) (i n : ℕ) (so : n ≡ count i p) where
+  pub counted-pass : p i ≡ true → n + 1 ≡ count (i + 1) p
+  unfolding count
+  counted-pass here = rw (add-one i, here) (omega arith)
+
+  pub counted-fail : p i ≡ false → n ≡ count (i + 1) p
+  unfolding count
+  counted-fail here = rw (add-one i, here) (omega arith)
+
 pub least-le : (n : ℕ) (p : ℕ → Bool) → least n p ≤ n
 unfolding least
 least-le zero p = zero-le
@@ -222,8 +300,17 @@ least-found (suc n) p h = step (p zero) refl (least-found n (λ k. p (suc k)) h)
     step true e later = e
     step false e later = later
 
-pub least-first : (n : ℕ) (p : ℕ → Bool) (k : ℕ) → p k ≡ true → k ≤ n → least n p ≤ k
-least-first n p k h l = ⊎-elim (λ (a : least n p ≤ k). a) (λ (b : k < least n p). absurd (clash h (least-before n p k b))) (le-or-lt (least n p) k)
+-- A search that has found goes no further,
+pub least-more : (k : ℕ) (p : ℕ → Bool) → p k ≡ true → least k p ≡ least (suc k) p
+unfolding least
+least-more zero p h = rw h
+least-more (suc k) p h = ap (λ (n : ℕ). cond (p zero) zero (suc n)) (least-more k (λ j. p (suc j)) h)
+
+-- and one that finds nothing goes to the end.
+pub least-last : (n : ℕ) (p : ℕ → Bool) → ((j : ℕ) → j < n → p j ≡ false) → n ≡ least n p
+unfolding least
+least-last zero p none = refl
+least-last (suc n) p none = rw (none zero (omega arith)) (ap suc (least-last n (λ j. p (suc j)) (λ j l. none (suc j) (omega arith))))
 
 pub same-refl : (xs : List ℕ) → same xs xs ≡ true
 unfolding same

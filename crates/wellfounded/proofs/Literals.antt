@@ -115,6 +115,10 @@ module _ (s : List ℕ) (l : ℕ) where
   unfolding literalFalse
   positive-false n h = rw n at h
 
+  pub negated-false : isNegated l ≡ true → literalFalse s l ≡ true → isTrue (valueAt s (atomOf l)) ≡ true
+  unfolding literalFalse
+  negated-false n h = rw n at h
+
   pub positive-false-make : isNegated l ≡ false → isFalse (valueAt s (atomOf l)) ≡ true → literalFalse s l ≡ true
   unfolding literalFalse
   positive-false-make n h = rw n h
@@ -145,10 +149,12 @@ module _ (s : List ℕ) (l : ℕ) where
       step false u v = true-false _ u v
 
 -- A literal's truth goes by its atom's value alone.
-pub literal-true-same : (s t : List ℕ) (l : ℕ) → valueAt t (atomOf l) ≡ valueAt s (atomOf l) → literalTrue s l ≡ true → literalTrue t l ≡ true
+pub literal-true-same :
+    (s t : List ℕ) (l : ℕ) → valueAt t (atomOf l) ≡ valueAt s (atomOf l) → literalTrue s l ≡ true → literalTrue t l ≡ true
 unfolding literalTrue
 literal-true-same s t l e h = rw e h
 
-pub literal-false-same : (s t : List ℕ) (l : ℕ) → valueAt t (atomOf l) ≡ valueAt s (atomOf l) → literalFalse s l ≡ true → literalFalse t l ≡ true
+pub literal-false-same :
+    (s t : List ℕ) (l : ℕ) → valueAt t (atomOf l) ≡ valueAt s (atomOf l) → literalFalse s l ≡ true → literalFalse t l ≡ true
 unfolding literalFalse
 literal-false-same s t l e h = rw e h

@@ -3,13 +3,15 @@
 use Prim.Native.Nat.{ℕ, suc, _+_, _-_, _≤_, _<_}
 use mathlib.Core.Path.{_≡_, sym}
 use mathlib.Core.Bool.{Bool, true, false}
-use mathlib.Core.List.{List, [], _∷_}
+use mathlib.Core.List.{List, [], _∷_, List·Memᴰ, Memᴰ·append-left, Memᴰ·append-right}
 use native.Mathlib.Numerals.{add-one}
 use native.Mathlib.Omega.{arith}
-use lib.ListN.{length, getD, take, drop, length-drop}
+use lib.ListN.{length, getD, take, drop, length-drop, take-append-drop}
 use lib.Seq.{drop-cons, take-all, getD-drop}
 use Rattle.wellfounded.specs.Lists.{all, any}
-use Rattle.wellfounded.specs.Literals.{bodyAt, Scannable}
+use Rattle.wellfounded.specs.Literals.{atomOf, bodyAt}
+use Rattle.wellfounded.specs.internal.Scans.{Scannable}
+use Rattle.wellfounded.proofs.Lists.{member-entry}
 
 -- The scan has come to i: what it would make of the literals from i on is what it makes of the whole body.
 pub record Scanned (p : ℕ → Bool) (literals : List ℕ) (size i : ℕ) : Type 0 where
@@ -32,11 +34,15 @@ module _ {p : ℕ → Bool} {literals : List ℕ} {size : ℕ} where
   pub scan-start : Scanned p literals size 0
   scan-start = record { low = omega arith; rest = let e : size - 0 ≡ size = omega arith in rw e }
 
-  pub scan-turn : {i : ℕ} → i < size → i < length literals → p (getD literals i 0) ≡ true → Scanned p literals size i → Scanned p literals size (i + 1)
+  pub scan-turn :
+      {i : ℕ} → i < size → i < length literals → p (getD literals i 0) ≡ true → Scanned p literals size i →
+      Scanned p literals size (i + 1)
   unfolding all
   scan-turn {i} h l passed s = record { low = omega arith; rest = rw (body-cons literals i size h l, passed) at (s .rest) }
 
-  pub scan-stop : {i : ℕ} → i < size → i < length literals → p (getD literals i 0) ≡ false → Scanned p literals size i → all p (bodyAt literals 0 size) ≡ false
+  pub scan-stop :
+      {i : ℕ} → i < size → i < length literals → p (getD literals i 0) ≡ false → Scanned p literals size i →
+      all p (bodyAt literals 0 size) ≡ false
   unfolding all
   scan-stop {i} h l failed s = sym (rw (body-cons literals i size h l, failed) at (s .rest))
 
@@ -53,11 +59,14 @@ module _ {p : ℕ → Bool} {literals : List ℕ} {size : ℕ} where
   pub seek-start : Sought p literals size 0
   seek-start = record { low = omega arith; rest = let e : size - 0 ≡ size = omega arith in rw e }
 
-  pub seek-turn : {i : ℕ} → i < size → i < length literals → p (getD literals i 0) ≡ false → Sought p literals size i → Sought p literals size (i + 1)
+  pub seek-turn :
+      {i : ℕ} → i < size → i < length literals → p (getD literals i 0) ≡ false → Sought p literals size i → Sought p literals size (i + 1)
   unfolding any
   seek-turn {i} h l failed s = record { low = omega arith; rest = rw (body-cons literals i size h l, failed) at (s .rest) }
 
-  pub seek-stop : {i : ℕ} → i < size → i < length literals → p (getD literals i 0) ≡ true → Sought p literals size i → any p (bodyAt literals 0 size) ≡ true
+  pub seek-stop :
+      {i : ℕ} → i < size → i < length literals → p (getD literals i 0) ≡ true → Sought p literals size i →
+      any p (bodyAt literals 0 size) ≡ true
   unfolding any
   seek-stop {i} h l passed s = sym (rw (body-cons literals i size h l, passed) at (s .rest))
 
@@ -70,7 +79,9 @@ pub part-is : {A : Type 0} (table : List A) (start : ℕ) → take (length table
 part-is table start = take-all (length table - start) (drop start table) (rw length-drop (omega arith))
 
 -- A body at start is one at the beginning of the part,
-pub part-body : (literals : List ℕ) (start size : ℕ) → bodyAt (take (length literals - start) (drop start literals)) 0 size ≡ bodyAt literals start size
+pub part-body :
+    (literals : List ℕ) (start size : ℕ) →
+    bodyAt (take (length literals - start) (drop start literals)) 0 size ≡ bodyAt literals start size
 unfolding bodyAt
 part-body literals start size = rw (part-is literals start)
 
@@ -83,3 +94,16 @@ part-scannable {literals} {start} s =
       within = rw length-drop (omega arith);
       known = λ place l. rw getD-drop (s .known (start + place) (omega (arith, rw length-drop at l)));
     })
+
+-- ── A body's literals are entries of the table ──
+
+pub body-member : (literals : List ℕ) (start size : ℕ) {l : ℕ} → List·Memᴰ l (bodyAt literals start size) → List·Memᴰ l literals
+unfolding bodyAt
+body-member literals start size here =
+    rw (take-append-drop start literals) at (Memᴰ·append-right (take start literals)
+    (rw (take-append-drop size (drop start literals)) at (Memᴰ·append-left (drop size (drop start literals)) here)))
+
+pub table-known :
+    (literals : List ℕ) (atoms : ℕ) → ((place : ℕ) → place < length literals → atomOf (getD literals place 0) < atoms) →
+    {l : ℕ} → List·Memᴰ l literals → atomOf l < atoms
+table-known literals atoms known m = let entry = member-entry 0 literals m in rw (entry .2) (known (entry .0) (entry .1))

@@ -1,7 +1,7 @@
 -- Values and levels that obey the level rules are the well-founded model.
 -- Assumes nothing.
 use Prim.Native.Nat.{ℕ, zero, suc, _≤_, _<_, zero-le}
-use mathlib.Core.Path.{_≡_, refl, sym, _∙_}
+use mathlib.Core.Path.{_≡_, refl, sym, ap, _∙_}
 use mathlib.Core.Logic.{_⊎_, inl, inr, ⊎-elim}
 use mathlib.Core.Bool.{Bool, true, _&&_}
 use mathlib.Core.List.{List, List·Memᴰ}
@@ -12,15 +12,15 @@ use borrow.Author.Tests.{leb-true, le-leb}
 use Rattle.wellfounded.specs.Literals.{isFalse, isTrue, isHeld, valueAt, atomOf, literalTrue, literalFalse, bodyTrue}
 use Rattle.wellfounded.specs.Definitions.{Rule, Definition, isDefined, isOpen, definedCount, fires}
 use Rattle.wellfounded.specs.Unfounded.{restsOn, Unfounded}
-use Rattle.wellfounded.specs.Stages.{stage, wellFoundedModel, TwoValued, SameSetting}
+use Rattle.wellfounded.specs.Stages.{stage, wellFoundedModel, stageOf, TwoValued, SameSetting}
 use Rattle.wellfounded.specs.Levels.{levelAt, Supports, Blocks, byOpen, byPositive, byNegated, Obeys}
 use Rattle.wellfounded.proofs.Tests.{both, first, second}
-use Rattle.wellfounded.proofs.Lists.{all-make}
+use Rattle.wellfounded.proofs.Lists.{all-make, le-or-lt}
 use Rattle.wellfounded.proofs.Literals.{true-value, false-value, held-value, held-below, positive-not-negated, positive-false, true-atom-held, false-atom-held, literal-true-same, literal-false-same}
 use Rattle.wellfounded.proofs.Definitions.{defined-or-open, someRule-make}
 use Rattle.wellfounded.proofs.Unfounded.{largest-holds}
 use Rattle.wellfounded.proofs.Stages.{stage-length, stage-open, fires-true, unfounded-false}
-use Rattle.wellfounded.proofs.Closure.{closure-bound, closure-after}
+use Rattle.wellfounded.proofs.Closure.{closure-bound, closure-after, stageOf-least, stageOf-beyond}
 
 pub same-setting-refl : (d : Definition) (values : List ℕ) → SameSetting d values values
 unfolding SameSetting
@@ -31,8 +31,8 @@ module _
     (two : TwoValued d values) (obeys : Obeys d values levels) (alike : SameSetting d setting values)
   where
     -- Stage k gives every atom of level k or less its value.
-    abbrev pub Reached : ℕ → Type 0
-    Reached k = (a : ℕ) → a < d .size → levelAt levels a ≤ k → valueAt (stage d setting k) a ≡ valueAt values a
+    abbrev pub AgreesUpTo : ℕ → Type 0
+    AgreesUpTo k = (a : ℕ) → a < d .size → levelAt levels a ≤ k → valueAt (stage d setting k) a ≡ valueAt values a
 
     open-reached : (k a : ℕ) → isOpen d a ≡ true → valueAt (stage d setting k) a ≡ valueAt values a
     unfolding SameSetting
@@ -40,13 +40,13 @@ module _
 
     -- A literal's atom has its value if it is open, or defined at a level up to k.
     atom-reached :
-        (k a : ℕ) → Reached k → isHeld (valueAt values a) ≡ true → (isDefined d a ≡ true → levelAt levels a ≤ k) →
+        (k a : ℕ) → AgreesUpTo k → isHeld (valueAt values a) ≡ true → (isDefined d a ≡ true → levelAt levels a ≤ k) →
         valueAt (stage d setting k) a ≡ valueAt values a
     atom-reached k a reached held low =
         let below : a < d .size = rw (two .size) at (held-below values a held) in
         ⊎-elim (λ h. reached a below (low h)) (λ h. open-reached k a h) (defined-or-open d a below)
 
-    module _ (k : ℕ) (reached : Reached k) where
+    module _ (k : ℕ) (reached : AgreesUpTo k) where
       true-next :
           (a : ℕ) → isDefined d a ≡ true → levelAt levels a ≤ suc k → isTrue (valueAt values a) ≡ true →
           isTrue (valueAt (stage d setting (suc k)) a) ≡ true
@@ -97,7 +97,7 @@ module _
       false-next a h l f =
           unfounded-false d setting k a (largest-holds d _ claimedFalse claimed-unfounded a (both _ _ (both _ _ h f) (le-leb _ _ l)))
 
-      reached-next : Reached (suc k)
+      reached-next : AgreesUpTo (suc k)
       reached-next a below l = ⊎-elim defined (λ h. open-reached (suc k) a h) (defined-or-open d a below)
         where
           defined : isDefined d a ≡ true → valueAt (stage d setting (suc k)) a ≡ valueAt values a
@@ -105,9 +105,15 @@ module _
               ⊎-elim (λ t. true-value _ (true-next a h l t) ∙ sym (true-value _ t)) (λ f. false-value _ (false-next a h l f) ∙ sym (false-value _ f))
               (held-value _ (two .held a below))
 
-    pub all-reached : (k : ℕ) → Reached k
+    pub all-reached : (k : ℕ) → AgreesUpTo k
     all-reached zero a below l = ⊎-elim (λ h. absurd (omega (arith, obeys .definedLevel a h))) (λ h. open-reached zero a h) (defined-or-open d a below)
     all-reached (suc k) a below l = reached-next k (all-reached k) a below l
+
+    -- So no atom's stage is above its level.
+    pub stage-below-level : (a : ℕ) → stageOf d setting a ≤ levelAt levels a
+    stage-below-level a =
+        ⊎-elim (λ beyond. rw (stageOf-beyond d setting a beyond) zero-le)
+        (λ below. stageOf-least d setting a _ (ap isHeld (all-reached (levelAt levels a) a below (omega arith)) ∙ two .held a below)) (le-or-lt (d .size) a)
 
     pub obeys-model : wellFoundedModel d setting ≡ values
     unfolding valueAt

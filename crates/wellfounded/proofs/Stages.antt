@@ -1,11 +1,12 @@
 -- Stages keep what they hold, and what makes an atom true never meets what makes it false.
 -- Assumes nothing.
-use Prim.Native.Nat.{ℕ, zero, suc, _+_, _<_}
+use Prim.Native.Nat.{ℕ, zero, suc, _+_, _-_, _≤_, _<_}
 use mathlib.Core.Path.{_≡_, refl, sym, ap, _∙_}
 use mathlib.Core.Logic.{_⊎_, inl, inr, ⊎-elim}
 use mathlib.Core.Bool.{Bool, true, false, cond, _&&_, false≢true}
 use mathlib.Core.List.{List, List·Memᴰ}
 use native.Mathlib.Nat.{add-zero, add-suc}
+use native.Mathlib.Omega.{arith}
 use lib.ListN.{length}
 use Rattle.wellfounded.specs.Lists.{iterate}
 use Rattle.wellfounded.specs.Literals.{isFalse, isTrue, isHeld, valueAt, atomOf, literalTrue, literalFalse, bodyTrue}
@@ -15,7 +16,7 @@ use Rattle.wellfounded.specs.Stages.{stageZero, nextValue, Keeps, Follow
 use Rattle.wellfounded.proofs.Tests.{clash, not-both, both, first, second, cond-true, cond-false}
 use Rattle.wellfounded.proofs.Lists.{all-use, length-tabulate, getD-tabulate, le-or-lt}
 use Rattle.wellfounded.proofs.Literals.{held-value, true-held, false-held, held-below, value-beyond, positive-true, true-atom-held, false-atom-held, literal-true-false, literal-true-same, literal-false-same}
-use Rattle.wellfounded.proofs.Definitions.{defined-below, open-below, defined-not-open, someRule-use, fires-defined}
+use Rattle.wellfounded.proofs.Definitions.{defined-below, open-below, defined-not-open, open-not-defined, someRule-use, fires-defined}
 use Rattle.wellfounded.proofs.Unfounded.{Obstructed, restsOn-map, restsOn-member, restsOn-positive, largest-unfounded}
 
 -- A literal that is true or false stays so while what is held is kept.
@@ -90,13 +91,17 @@ module _ (d : Definition) (o : List ℕ) where
   unfolding stage iterate
   stage-suc k = refl
 
+  pub zero-undecided : (a : ℕ) → isDefined d a ≡ true → valueAt (stage d o zero) a ≡ 2
+  unfolding stage iterate stageZero valueAt
+  zero-undecided a h = getD-tabulate _ _ a 2 (defined-below d a h) ∙ cond-true _ _ h
+
   pub zero-defined : (a : ℕ) → isDefined d a ≡ true → isHeld (valueAt (stage d o zero) a) ≡ false
-  unfolding stage iterate stageZero valueAt isHeld
-  zero-defined a h = ap isHeld (getD-tabulate _ _ a 2 (defined-below d a h) ∙ cond-true _ _ h)
+  unfolding isHeld
+  zero-defined a h = ap isHeld (zero-undecided a h)
 
   pub zero-open : (a : ℕ) → isOpen d a ≡ true → valueAt (stage d o zero) a ≡ valueAt o a
   unfolding stage iterate stageZero valueAt
-  zero-open a h = getD-tabulate _ _ a 2 (open-below d a h) ∙ cond-false _ _ (not-both _ (λ t. defined-not-open d a t h))
+  zero-open a h = getD-tabulate _ _ a 2 (open-below d a h) ∙ cond-false _ _ (open-not-defined d a h)
 
   pub stage-open : (k a : ℕ) → isOpen d a ≡ true → valueAt (stage d o k) a ≡ valueAt o a
   stage-open zero a h = zero-open a h
@@ -108,6 +113,12 @@ module _ (d : Definition) (o : List ℕ) where
   pub stage-keeps-add : (k m : ℕ) → Keeps (stage d o (k + m)) (stage d o k)
   stage-keeps-add k zero = rw add-zero (λ a h. refl)
   stage-keeps-add k (suc m) = rw add-suc (keeps-trans _ _ _ (stage-keeps-add k m) (stage-keeps (k + m)))
+
+  -- What a stage does not hold, no earlier one does.
+  pub earlier-lacks : (j k a : ℕ) → j ≤ k → isHeld (valueAt (stage d o k) a) ≡ false → isHeld (valueAt (stage d o j) a) ≡ false
+  earlier-lacks j k a l lacks =
+      let split : j + (k - j) ≡ k = omega arith in
+      not-both _ (λ t. clash (ap isHeld (rw split at (stage-keeps-add j (k - j) a t)) ∙ t) lacks)
 
   -- Suppose no atom of an unfounded set is true at a stage. Then none has a rule whose body is all true there.
   rules-rest :

@@ -39,6 +39,18 @@ pub or-right : (a b : Bool) → b ≡ true → (a || b) ≡ true
 or-right true b e = refl
 or-right false b e = e
 
+pub or-none : (a b : Bool) → b ≡ false → (a || b) ≡ a
+or-none true b none = refl
+or-none false b none = none
+
+pub and-left : (a b : Bool) → a ≡ false → (a && b) ≡ false
+and-left true b none = absurd (false≢true (sym none))
+and-left false b none = refl
+
+pub and-right : (a b : Bool) → b ≡ false → (a && b) ≡ false
+and-right true b none = none
+and-right false b none = refl
+
 pub neither : (a b : Bool) → (a || b) ≡ false → (a ≡ false) × (b ≡ false)
 neither true b e = absurd (false≢true (sym e))
 neither false b e = (refl, e)

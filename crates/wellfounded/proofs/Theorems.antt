@@ -9,7 +9,7 @@ use mathlib.Core.List.{List}
 use Rattle.wellfounded.specs.Literals.{isTrue, isFalse, isHeld, valueAt}
 use Rattle.wellfounded.specs.Definitions.{Definition, isDefined, isOpen, definedCount, fires}
 use Rattle.wellfounded.specs.Unfounded.{Unfounded, member, largest}
-use Rattle.wellfounded.specs.Stages.{stage, Follows, closure, wellFoundedModel, stageOf, stagesOf, TwoValued, SameSetting}
+use Rattle.wellfounded.specs.Stages.{stage, Follows, closure, wellFoundedModel, stageOf, stagesOf, TwoValued, Setting, SameSetting}
 use Rattle.wellfounded.specs.Levels.{levelAt, Obeys, accepts}
 use Rattle.wellfounded.proofs.Unfounded
 use Rattle.wellfounded.proofs.Stages
@@ -98,9 +98,18 @@ module _ (d : Definition) (setting : List ℕ) where
       (1 ≤ stageOf d setting atom) × (stageOf d setting atom ≤ definedCount d)
   stage-of-range = Closure.stageOf-range d setting
 
-  -- and is 0 for an open atom.
+  -- and is 0 for an open atom and for an undecided one,
   pub stage-of-open : (atom : ℕ) → isOpen d atom ≡ true → stageOf d setting atom ≡ 0
   stage-of-open = Closure.stageOf-open d setting
+
+  pub stage-of-undecided : (atom : ℕ) → isHeld (valueAt (wellFoundedModel d setting) atom) ≡ false → stageOf d setting atom ≡ 0
+  stage-of-undecided = Closure.stageOf-undecided d setting
+
+  -- which has the value 2 where the open atoms have 0 or 1.
+  pub undecided-value :
+      Setting d setting → (atom : ℕ) → isHeld (valueAt (wellFoundedModel d setting) atom) ≡ false →
+      valueAt (wellFoundedModel d setting) atom ≡ 2
+  undecided-value = Closure.undecided-value d setting
 
 -- ── The level rules ──
 
@@ -121,6 +130,12 @@ pub sound-by-level :
     (d : Definition) (values levels setting : List ℕ) → TwoValued d values → Obeys d values levels → SameSetting d setting values →
     (k atom : ℕ) → atom < d .size → levelAt levels atom ≤ k → valueAt (stage d setting k) atom ≡ valueAt values atom
 sound-by-level = Soundness.all-reached
+
+-- So no level is below its atom's stage.
+pub stage-below-level :
+    (d : Definition) (values levels setting : List ℕ) → TwoValued d values → Obeys d values levels → SameSetting d setting values →
+    (atom : ℕ) → stageOf d setting atom ≤ levelAt levels atom
+stage-below-level = Soundness.stage-below-level
 
 -- Completeness: a two-valued well-founded model with its stages obeys the level rules.
 pub complete :

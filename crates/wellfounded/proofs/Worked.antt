@@ -98,7 +98,8 @@ unfolding rule defining
 bookP8 = defining 2 (rule 0 (3 ∷ []) ∷ rule 1 (1 ∷ []) ∷ [])
 
 pub bookP8-model :
-    (closure bookP8 (0 ∷ 0 ∷ []) ≡ 0) × (wellFoundedModel bookP8 (0 ∷ 0 ∷ []) ≡ (2 ∷ 2 ∷ [])) × (stagesOf bookP8 (0 ∷ 0 ∷ []) ≡ (0 ∷ 0 ∷ []))
+    (closure bookP8 (0 ∷ 0 ∷ []) ≡ 0) × (wellFoundedModel bookP8 (0 ∷ 0 ∷ []) ≡ (2 ∷ 2 ∷ [])) ×
+    (stagesOf bookP8 (0 ∷ 0 ∷ []) ≡ (0 ∷ 0 ∷ []))
 unfolding bookP8 staging
 bookP8-model = (refl, refl, refl)
 

@@ -11,7 +11,8 @@ pub record Rule : Type 0 where
   pub head : ℕ
   pub body : List ℕ
 
--- A definition over the atoms 0 to size - 1. Which atoms it defines is said beside the rules: a book decides that.
+-- A definition over the atoms (the paper's facts) 0 to size - 1, where size is the paper's N. Which atoms it defines is said
+-- beside the rules: a book decides that.
 pub record Definition : Type 0 where
   pub size : ℕ
   pub defined : ℕ → Bool

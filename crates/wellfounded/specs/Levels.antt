@@ -46,7 +46,9 @@ pub record Obeys (d : Definition) (values levels : List ℕ) : Type 0 where
       (r : Rule) → List·Memᴰ r (d .rules) → r .head ≡ atom →
       (literal : ℕ) × List·Memᴰ literal (r .body) × Blocks d values levels atom literal
 
--- The same rules as tests.
+-- The same rules as tests, for worked examples: `accepts` is true exactly for what `Obeys` describes (`Theorems`, `accepts-exactly`).
+-- The product's check runs the tests 22, 23 and 24 of the crate `checker`, made of the parts below, one fault after the other;
+-- its theorem `accepted-exactly` ties them to `Obeys` too, so that the two agree.
 unfoldable pub supports : Definition → List ℕ → List ℕ → ℕ → ℕ → Bool
 supports d values levels atom literal =
     literalTrue values literal
@@ -61,7 +63,8 @@ blocks d values levels atom literal =
 
 unfoldable pub levelInRange : Definition → List ℕ → ℕ → Bool
 levelInRange d levels atom =
-    cond (isDefined d atom) (leb 1 (levelAt levels atom) && leb (levelAt levels atom) (definedCount d)) (eqb (levelAt levels atom) 0)
+    cond (isDefined d atom) (leb 1 (levelAt levels atom) && leb (levelAt levels atom) (definedCount d))
+    (eqb (levelAt levels atom) 0)
 
 unfoldable pub isSupported : Definition → List ℕ → List ℕ → ℕ → Bool
 isSupported d values levels atom = someRule d atom (all (supports d values levels atom))
@@ -76,6 +79,6 @@ obeysAt d values levels atom =
     && (not (isDefined d atom && isTrue (valueAt values atom)) || isSupported d values levels atom)
     && (not (isDefined d atom && isFalse (valueAt values atom)) || isBlocked d values levels atom)
 
--- Every atom obeys them: true exactly for the values and levels that `Obeys` describes (`Theorems`, `accepts-exactly`).
+-- Every atom obeys them.
 unfoldable pub accepts : Definition → List ℕ → List ℕ → Bool
 accepts d values levels = allBelow (d .size) (obeysAt d values levels)

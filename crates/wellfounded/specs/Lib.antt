@@ -5,3 +5,4 @@ pub mod Definitions
 pub mod Unfounded
 pub mod Stages
 pub mod Levels
+pub mod internal

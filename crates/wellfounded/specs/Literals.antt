@@ -1,9 +1,9 @@
 -- Truth values, states and literals.
-use Prim.Native.Nat.{ℕ, zero, suc, _+_, _/_, _%_, _≤_, _<_}
+use Prim.Native.Nat.{ℕ, zero, suc, _/_, _%_}
 use mathlib.Core.Bool.{Bool, true, false, cond}
 use mathlib.Core.List.{List}
 use lib.Dec.{eqb}
-use lib.ListN.{length, getD, take, drop}
+use lib.ListN.{getD, take, drop}
 use Rattle.wellfounded.specs.Lists.{all}
 
 -- A value is 0 for false, 1 for true and 2 for undecided. Any other number is read as undecided too.
@@ -16,13 +16,13 @@ isTrue zero = false
 isTrue (suc zero) = true
 isTrue (suc (suc v)) = false
 
--- The value is false or true: the state holds the atom.
+-- The value is false or true: the state holds the atom, which is then decided.
 unfoldable pub isHeld : ℕ → Bool
 isHeld zero = true
 isHeld (suc zero) = true
 isHeld (suc (suc v)) = false
 
--- A state lists the values of the atoms 0, 1, 2, ..; an atom beyond its end is undecided.
+-- A state (what a stage holds) lists the values of the atoms 0, 1, 2, ..; an atom beyond its end is undecided.
 unfoldable pub valueAt : List ℕ → ℕ → ℕ
 valueAt state atom = getD state atom 2
 
@@ -51,8 +51,3 @@ bodyTrue state body = all (literalTrue state) body
 -- A body is the part of the literal table beginning at start, count long.
 unfoldable pub bodyAt : List ℕ → ℕ → ℕ → List ℕ
 bodyAt literals start size = take size (drop start literals)
-
--- What a scan of that part needs: it lies in the table, and every literal of the table has its atom below `atoms`.
-pub record Scannable (literals : List ℕ) (start size atoms : ℕ) : Type 0 where
-  pub within : start + size ≤ length literals
-  pub known : (place : ℕ) → place < length literals → atomOf (getD literals place 0) < atoms

@@ -65,6 +65,10 @@ stageOf d setting atom =
 unfoldable pub stagesOf : Definition → List ℕ → List ℕ
 stagesOf d setting = tabulate (d .size) (stageOf d setting)
 
--- Two lists of values give the same setting if they agree on the open atoms.
+-- A setting gives each open atom 0 or 1; what the list has at defined atoms does not matter.
+pub record Setting (d : Definition) (setting : List ℕ) : Type 0 where
+  pub given : (atom : ℕ) → isOpen d atom ≡ true → isHeld (valueAt setting atom) ≡ true
+
+-- Two lists of values give the same setting if they agree on the open atoms. (A claim has a setting if its values agree with it so.)
 unfoldable pub SameSetting : Definition → List ℕ → List ℕ → Type 0
 SameSetting d v w = (atom : ℕ) → isOpen d atom ≡ true → valueAt v atom ≡ valueAt w atom

@@ -33,6 +33,6 @@ obstructed state set body = any (λ literal. literalFalse state literal || rests
 unfoldable pub shrink : Definition → List ℕ → List Bool → List Bool
 shrink d state set = tabulate (d .size) (λ atom. member set atom && everyRule d atom (obstructed state (member set)))
 
--- The largest unfounded set: all defined atoms, shrunk until nothing leaves the set.
+-- The largest unfounded set: all defined atoms, shrunk as often as there are atoms, after which nothing leaves the set.
 unfoldable pub largest : Definition → List ℕ → List Bool
 largest d state = iterate (d .size) (shrink d state) (tabulate (d .size) (isDefined d))

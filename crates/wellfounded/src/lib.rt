@@ -2,7 +2,8 @@
 ghost use mathlib.Core.Path.{_≡_};
 ghost use Prim.Native.Nat.{_<_};
 ghost use lib.ListN.{length};
-ghost use Rattle.wellfounded.specs.Literals.{atomOf, isNegated, literalTrue, literalFalse, bodyTrue, bodyAt, Scannable};
+ghost use Rattle.wellfounded.specs.Literals.{atomOf, isNegated, literalTrue, literalFalse, bodyTrue, bodyAt};
+ghost use Rattle.wellfounded.specs.internal.Scans.{Scannable};
 
 // The atom of a literal.
 pub fn atom_of(literal: u16) -> usize

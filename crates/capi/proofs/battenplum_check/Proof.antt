@@ -2,7 +2,7 @@
 -- Assumes nothing.
 use mathlib.Core.Path.{ap, _∙_}
 use borrow.Author.Needs.{needs}
-use Rattle.outcome.proofs.Bounds.{check-position}
+use Rattle.checker.proofs.Positions.{check-position}
 use Rattle.capi.specs.Packing.{packed}
 use Rattle.capi.proofs.battenplum_check.Statement.{statement}
 use Rattle.capi.proofs.battenplum_check.Tie as tie

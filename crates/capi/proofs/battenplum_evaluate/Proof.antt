@@ -3,6 +3,7 @@
 use Prim.Native.Nat.{_≤_}
 use native.Mathlib.Omega.{arith}
 use borrow.Author.Needs.{needs}
+use Rattle.tables.specs.Limits.{maxAtoms, maxPosition}
 use Rattle.tables.specs.Faults.{positionOf}
 use Rattle.capi.proofs.PackLaws.{packed-small, made-small, made-packed}
 use Rattle.capi.proofs.battenplum_evaluate.Statement.{statement}
@@ -13,7 +14,7 @@ abbrev evaluated : tie.After-slice-known6 → tie.After-evaluate
 evaluated c = c .before .before .before .before .before .before
 
 -- Its rounds and its verdict's position are small.
-small : (c : tie.After-slice-known6) → (positionOf (evaluated c .evaluate .result .verdict) ≤ 65535) × (evaluated c .evaluate .result .rounds ≤ 1024)
+small : (c : tie.After-slice-known6) → (positionOf (evaluated c .evaluate .result .verdict) ≤ maxPosition) × (evaluated c .evaluate .result .rounds ≤ maxAtoms)
 small c = made-small _ _ _ _ _ (evaluated c .evaluate .ensures)
 
 evaluate-requires : tie.Need-evaluate-requires

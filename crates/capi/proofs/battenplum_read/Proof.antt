@@ -1,13 +1,13 @@
--- `capi::battenplum_read` meets its contract: with seven places the text is read and its counts are told, and else nothing is done.
+-- `capi::battenplum_read` meets its contract: with seven places the text is read and its counts are put there, and else nothing is done.
 -- Assumes nothing.
 use mathlib.Core.Path.{_≡_}
 use lib.ListN.{length}
-use Rattle.capi.proofs.PackLaws.{read-within, read-position, read-told, read-untold}
+use Rattle.capi.proofs.PackLaws.{read-within, read-position, read-answers, read-unanswered}
 use Rattle.capi.proofs.battenplum_read.Statement.{statement}
 use Rattle.capi.proofs.battenplum_read.Tie as tie
 
 -- The text was read, and before it there were seven places.
-abbrev was-read : tie.After-tell-arg → tie.After-read
+abbrev was-read : tie.After-put-counts-arg → tie.After-read
 was-read c = c .before .before .before .before .before .before .before .before .before .before .before .before .before .before .before
 
 abbrev began : tie.After-read → tie.Start
@@ -17,13 +17,13 @@ seven : (c : tie.After-read) → length (began c .args .answer .now) ≡ 7
 seven c = c .before .before .before .before .before .before .before .before .before .if1 .left
 
 returns : tie.Need-returns
-returns c = read-untold (c .if1 .taken)
+returns c = read-unanswered (c .if1 .taken)
 
 read-requires : tie.Need-read-requires
 read-requires c κs = tt
 
-tell-requires : tie.Need-tell-requires
-tell-requires c κs = (seven (was-read c), read-within (was-read c .read .ensures))
+put-counts-requires : tie.Need-put-counts-requires
+put-counts-requires c κs = (seven (was-read c), read-within (was-read c .read .ensures))
 
 pack-requires : tie.Need-pack-requires
 pack-requires c κs = read-position (was-read (c .before .before .before) .read .ensures)
@@ -53,10 +53,10 @@ same-length-8 : tie.Need-same-length-8
 same-length-8 c = was-read (c .before .before .before .before) .read .kept .1 .1 .1 .1 .1 .1 .1 .1 .0
 
 same-length-9 : tie.Need-same-length-9
-same-length-9 c = c .before .before .before .tell .kept .0
+same-length-9 c = c .before .before .before .put-counts .kept .0
 
 returns-2 : tie.Need-returns-2
-returns-2 c = read-told (seven (was-read (c .before .before .before .before))) (was-read (c .before .before .before .before) .read .ensures) (c .pack .ensures) (c .before .before .before .tell .ensures)
+returns-2 c = read-answers (seven (was-read (c .before .before .before .before))) (was-read (c .before .before .before .before) .read .ensures) (c .pack .ensures) (c .before .before .before .put-counts .ensures)
 
 pub battenplum-read-spec : {M : Type 1} → statement M
 battenplum-read-spec =
@@ -64,7 +64,7 @@ battenplum-read-spec =
     (tie.spec
     returns
     read-requires
-    tell-requires
+    put-counts-requires
     pack-requires
     same-length
     same-length-2

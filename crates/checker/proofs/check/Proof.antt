@@ -1,16 +1,14 @@
 -- `checker::check` meets its contract: sound tables leave the verdict to the slices, and these to the claim.
 -- Assumes nothing.
-use Prim.Native.Nat.{ℕ}
 use mathlib.Core.Path.{_≡_, refl, sym, _∙_}
-use mathlib.Core.List.{[], _∷_, List·Memᴰ·head, List·Memᴰ·tail}
-use lib.ListN.{length}
+use mathlib.Core.List.{_∷_, List·Memᴰ·head, List·Memᴰ·tail}
 use borrow.Author.Needs.{needs}
 use Rattle.tables.specs.Faults.{firstFault}
 use Rattle.tables.specs.Sound.{Tables, lent, tableTests, sliceTest}
 use Rattle.tables.proofs.Faults.{accepted-absent, verdict-refuses, verdict-leaves}
-use Rattle.tables.proofs.SoundTables.{slice-refuses, slice-leaves, length-none, length-more}
-use Rattle.checker.specs.Check.{claimTests, checkTests, checkOf}
-use Rattle.checker.proofs.MarkedRules.{claim-ready}
+use Rattle.tables.proofs.SoundTables.{slice-refuses, slice-leaves, sized-none, sized-more}
+use Rattle.checker.specs.Check.{claimTests, claimSlices, checkTests, checkOf}
+use Rattle.checker.proofs.MarkedHeads.{claim-ready}
 use Rattle.checker.proofs.check.Statement.{statement}
 use Rattle.checker.proofs.check.Tie as tie
 
@@ -24,7 +22,7 @@ tables-fit :
     (c : tie.After-enum-told2) →
     let a = c .before .before .before .before .before .before .before .before .before .args in
     checkOf (given c) (a .values .now) (a .levels .now)
-    ≡ firstFault (sliceTest (given c .atoms) (length (a .values .now) ∷ length (a .levels .now) ∷ []) ∷ claimTests (given c) (a .values .now) (a .levels .now))
+    ≡ firstFault (sliceTest (claimSlices (given c) (a .values .now) (a .levels .now)) ∷ claimTests (given c) (a .values .now) (a .levels .now))
 unfolding checkOf checkTests
 tables-fit c = verdict-leaves _ (tableTests (given c)) _ _ refl (c .before .before .table-fault .ensures) (c .enum-told2 .given .1)
 
@@ -36,7 +34,7 @@ unfolding lent
 slices-fit c =
     let a = c .before .before .before .before .before .before .before .before .before .before .before .args in
     tables-fit (c .before .before)
-    ∙ slice-leaves _ _ _ (length-more (λ (n : ℕ). n ≡ a .atoms) (c .before .if1 .left) (length-more (λ (n : ℕ). n ≡ a .atoms) (c .if2 .left) (length-none _)))
+    ∙ slice-leaves _ _ (sized-more (c .before .if1 .left) (sized-more (c .if2 .left) sized-none))
 
 table-fault-requires : tie.Need-table-fault-requires
 table-fault-requires c κs = search needs
@@ -53,11 +51,11 @@ enum-told-2 c = search needs
 
 returns-2 : tie.Need-returns-2
 unfolding lent
-returns-2 c = sym (tables-fit (c .before) ∙ slice-refuses _ _ _ _ (List·Memᴰ·head refl) (c .if1 .taken))
+returns-2 c = sym (tables-fit (c .before) ∙ slice-refuses _ _ _ (List·Memᴰ·head refl) (c .if1 .taken))
 
 returns-3 : tie.Need-returns-3
 unfolding lent
-returns-3 c = sym (tables-fit (c .before .before) ∙ slice-refuses _ _ _ _ (List·Memᴰ·tail (List·Memᴰ·head refl)) (c .if2 .taken))
+returns-3 c = sym (tables-fit (c .before .before) ∙ slice-refuses _ _ _ (List·Memᴰ·tail (List·Memᴰ·head refl)) (c .if2 .taken))
 
 claim-fault-requires : tie.Need-claim-fault-requires
 unfolding lent

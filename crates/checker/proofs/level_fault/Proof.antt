@@ -8,10 +8,13 @@ use lib.ListN.{length}
 use borrow.Author.Needs.{needs}
 use Rattle.tables.specs.Faults.{lowest, firstFault}
 use Rattle.tables.specs.Rows.{definitionOf}
+use Rattle.tables.proofs.RowLaws.{definition-rows}
 use Rattle.tables.proofs.Faults.{found-refuses, nothing-leaves}
 use Rattle.checker.specs.Check.{badLevel, levelTest, supportTest, blockingTest, levelTests}
-use Rattle.checker.proofs.LevelScans.{levels-ranged}
-use Rattle.checker.proofs.MarkedRules.{heads-readable, heads-count}
+use Rattle.checker.specs.internal.Scans.{Ranged}
+use Rattle.checker.proofs.LevelReads.{levels-search, levels-ranged}
+use Rattle.checker.proofs.Supported.{heads-levelled}
+use Rattle.checker.proofs.MarkedHeads.{heads-readable, heads-count}
 use Rattle.checker.proofs.level_fault.Statement.{statement}
 use Rattle.checker.proofs.level_fault.Tie as tie
 
@@ -21,9 +24,10 @@ level-is :
     let d = definitionOf (length (a .values .now)) (a .rules .now) (a .literals .now) in
     c .bad-level .result ≡ lowest (d .size) (badLevel d (a .levels .now))
 level-is c =
-    let pre = c .before .before .before .before .before .before .before .before .before .before .before .pre in
-    let readable = heads-readable _ _ _ _ (pre .few) _ (c .before .before .before .before .before .mark-heads .ensures) (pre .long) in
-    c .bad-level .ensures _ readable (heads-count _ _ _ _ (pre .few) _ readable ∙ sym (c .before .before .count-marked .ensures))
+    let start = c .before .before .before .before .before .before .before .before .before .before .before in
+    let a = start .args in
+    let readable = heads-readable (a .rules .now) (a .literals .now) (a .values .now) (a .levels .now) _ (start .pre .few) (c .before .before .before .before .before .mark-heads .ensures) (start .pre .long) in
+    c .bad-level .ensures ∙ levels-search readable (heads-count readable ∙ sym (c .before .before .count-marked .ensures))
 
 levels-fit :
     (c : tie.After-enum-told) →
@@ -65,15 +69,29 @@ enum-told c = search needs
 slice-aggregate-rule-fault : tie.Need-slice-aggregate-rule-fault
 slice-aggregate-rule-fault c = search needs
 
+-- Where no level has a fault, all are in range.
+ranged :
+    (c : tie.After-enum-told) →
+    let a = c .before .before .before .before .before .before .before .before .before .before .before .before .before .args in
+    Ranged (definitionOf (length (a .values .now)) (a .rules .now) (a .literals .now)) (a .values .now) (a .levels .now)
+ranged c =
+    let start = c .before .before .before .before .before .before .before .before .before .before .before .before .before in
+    let a = start .args in
+    levels-ranged
+    (heads-readable (a .rules .now) (a .literals .now) (a .values .now) (a .levels .now) _ (start .pre .few) (c .before .before .before .before .before .before .before .mark-heads .ensures) (start .pre .long))
+    (sym (level-is (c .before .before)) ∙ c .enum-told .given .1)
+
 rule-fault-requires : tie.Need-rule-fault-requires
 rule-fault-requires c κs =
     let pre = c .before .before .before .before .before .before .before .before .before .before .before .before .before .before .pre in
-    let readable = heads-readable _ _ _ _ (pre .few) _ (c .before .before .before .before .before .before .before .before .mark-heads .ensures) (pre .long) in
-    let ranged = levels-ranged readable (sym (level-is (c .before .before .before)) ∙ c .before .enum-told .given .1) in
-    (pre .rows, (readable, (ranged, pre .few)))
+    (heads-levelled (definition-rows _ _ _) (pre .few) (pre .rows) (ranged (c .before)), omega arith)
 
 returns-2 : tie.Need-returns-2
-returns-2 c = c .rule-fault .ensures ∙ sym (levels-fit (c .before .before))
+returns-2 c =
+    let start = c .before .before .before .before .before .before .before .before .before .before .before .before .before .before .before in
+    let a = start .args in
+    let readable = heads-readable (a .rules .now) (a .literals .now) (a .values .now) (a .levels .now) _ (start .pre .few) (c .before .before .before .before .before .before .before .before .before .mark-heads .ensures) (start .pre .long) in
+    c .rule-fault .ensures _ (definition-rows _ _ _) readable (ranged (c .before .before)) ∙ sym (levels-fit (c .before .before))
 
 pub level-fault-spec : {M : Type 1} → statement M
 level-fault-spec =

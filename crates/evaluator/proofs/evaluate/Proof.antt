@@ -2,7 +2,7 @@
 -- Assumes nothing.
 use borrow.Author.Needs.{needs}
 use Rattle.tables.specs.Sound.{Tables, lent}
-use Rattle.evaluator.proofs.Evaluating.{Prepared, tables-answer, slices-answer, prepared, moved-sound, moved-answer}
+use Rattle.evaluator.proofs.Evaluating.{Prepared, tables-answer, slices-answer, prepared, resized-sound, resized-answer}
 use Rattle.evaluator.proofs.evaluate.Statement.{statement}
 use Rattle.evaluator.proofs.evaluate.Tie as tie
 
@@ -36,7 +36,7 @@ returns-2 c =
     slices-answer (given (c .before .before .before .before .before .before .before .before .before .before .before .before .before)) _ _ _ _ _ (c .before .before .before .before .table-fault .ensures) (c .before .before .enum-told2 .given .1) _ (c .before .lengths-fit .ensures) (c .if1 .taken)
 
 evaluate-lent-requires : tie.Need-evaluate-lent-requires
-evaluate-lent-requires c κs = moved-sound _ _ _ _ _ _ _ _ _ _ _ (ready (c .before .before .before))
+evaluate-lent-requires c κs = resized-sound _ _ _ _ _ _ _ _ _ _ _ (ready (c .before .before .before))
 
 same-length : tie.Need-same-length
 same-length c = search needs
@@ -49,7 +49,7 @@ same-length-3 c = search needs
 
 returns-3 : tie.Need-returns-3
 returns-3 c =
-    moved-answer _ _ _ _ _ _ _ _ _ _ _ (ready (c .before .before .before .before .before .before .before .before .before .before)) _ _ _ _ _ (c .before .before .before .before .before .before .evaluate-lent .ensures)
+    resized-answer _ _ _ _ _ _ _ _ _ _ _ (ready (c .before .before .before .before .before .before .before .before .before .before)) _ _ _ _ _ (c .before .before .before .before .before .before .evaluate-lent .ensures)
 
 pub evaluate-spec : {M : Type 1} → statement M
 evaluate-spec =

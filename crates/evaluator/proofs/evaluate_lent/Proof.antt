@@ -8,7 +8,9 @@ use borrow.Author.Needs.{needs}
 use Rattle.tables.specs.Faults.{lowest}
 use Rattle.satisfaction.specs.Satisfied.{satisfactionTests}
 use Rattle.tables.specs.Sound.{Tables, lent, bookOf}
+use Rattle.rounds.specs.internal.Rounds.{RoundsDone}
 use Rattle.tables.proofs.MarkLaws.{mark-length}
+use Rattle.tables.proofs.RowLaws.{book-size}
 use Rattle.evaluator.specs.Evaluate.{badSetting}
 use Rattle.evaluator.proofs.Evaluating.{setting-same, stages-ready, done-long, stopped-answer, made-answer}
 use Rattle.evaluator.proofs.evaluate_lent.Statement.{statement}
@@ -22,7 +24,7 @@ given s =
 setting-is :
     (c : tie.After-bad-setting) →
     let s = c .before .before .before .before .before .before .before .before .before .before .before .before .before in
-    c .bad-setting .result ≡ lowest (given s .atoms) (badSetting (bookOf (given s)) (s .args .setting .now))
+    c .bad-setting .result ≡ lowest (bookOf (given s) .size) (badSetting (bookOf (given s)) (s .args .setting .now))
 unfolding lent
 setting-is c =
     let s = c .before .before .before .before .before .before .before .before .before .before .before .before .before in
@@ -63,13 +65,25 @@ evaluate-stages-requires : tie.Need-evaluate-stages-requires
 unfolding lent
 evaluate-stages-requires c κs =
     let s = c .before .before .before .before .before .before .before .before .before .before .before .before .before .before .before .before .before .before .before in
-    stages-ready (given s) _ _ _ _ refl (s .pre) _ (c .before .before .before .before .before .before .before .before .before .mark-heads .ensures)
+    (bookOf (given s), stages-ready (given s) _ _ _ _ refl (s .pre) _ (c .before .before .before .before .before .before .before .before .before .mark-heads .ensures))
+
+-- The rounds have made the book's model.
+rounds-done :
+    (c : tie.After-evaluate-stages) →
+    let s = c .before .before .before .before .before .before .before .before .before .before .before .before .before .before .before .before .before .before .before .before in
+    let last = c .evaluate-stages .last .1 .1 .1 .1 in
+    RoundsDone (bookOf (given s)) (s .args .setting .now) (last .0) (last .1 .0) (last .1 .1 .0) (c .evaluate-stages .result)
+unfolding lent
+rounds-done c =
+    let s = c .before .before .before .before .before .before .before .before .before .before .before .before .before .before .before .before .before .before .before .before in
+    c .evaluate-stages .ensures (bookOf (given s))
+    (stages-ready (given s) _ _ _ _ refl (s .pre) _ (c .before .before .before .before .before .before .before .before .before .before .mark-heads .ensures))
 
 model-fault-requires : tie.Need-model-fault-requires
 unfolding lent
 model-fault-requires c κs =
     let s = c .before .before .before .before .before .before .before .before .before .before .before .before .before .before .before .before .before .before .before .before .before .before .before .before .before .before .before in
-    rw (done-long (c .before .before .before .before .before .before .before .evaluate-stages .ensures)) (s .pre .clauseRows, s .pre .loadRows)
+    rw (done-long (rounds-done (c .before .before .before .before .before .before .before)), book-size) (s .pre .clauseRows, s .pre .loadRows)
 
 same-length : tie.Need-same-length
 same-length c = search needs
@@ -84,7 +98,7 @@ returns-2 : tie.Need-returns-2
 unfolding lent satisfactionTests
 returns-2 c =
     let s = c .before .before .before .before .before .before .before .before .before .before .before .before .before .before .before .before .before .before .before .before .before .before .before .before .before .before .before .before in
-    made-answer (given s) _ _ _ _ _ (setting-is (c .before .before .before .before .before .before .before .before .before .before .before .before .before .before .before)) (c .before .before .before .before .before .before .before .before .before .before .before .before .before .enum-told .given .1) _ _ _ _ _ refl (c .before .before .before .before .before .before .before .before .evaluate-stages .ensures)
+    made-answer (given s) _ _ _ _ _ (setting-is (c .before .before .before .before .before .before .before .before .before .before .before .before .before .before .before)) (c .before .before .before .before .before .before .before .before .before .before .before .before .before .enum-told .given .1) _ _ _ _ _ refl (rounds-done (c .before .before .before .before .before .before .before .before))
     (c .model-fault .ensures)
 
 pub evaluate-lent-spec : {M : Type 1} → statement M

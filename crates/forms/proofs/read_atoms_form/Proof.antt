@@ -8,9 +8,9 @@ use borrow.Author.Needs.{needs}
 use borrow.Author.Tests.{not-true, not-false}
 use Rattle.numerals.specs.declared.numbers.Number.the-variants.{Read}
 use Rattle.format.specs.Words.{wordAt}
-use Rattle.numerals.specs.Offsets.{numberAt}
+use Rattle.numerals.specs.internal.Offsets.{numberAt}
 use Rattle.items.proofs.ItemLaws.{byte-got}
-use Rattle.forms.proofs.FormLaws.{atoms-unspaced, atoms-sizeless, atoms-unclosed, atoms-formed}
+use Rattle.forms.proofs.AtomsForm.{atoms-unspaced, atoms-sizeless, atoms-unclosed, atoms-formed}
 use Rattle.forms.proofs.read_atoms_form.Statement.{statement}
 use Rattle.forms.proofs.read_atoms_form.Tie as tie
 

@@ -1,8 +1,9 @@
 -- `forms::read_claim_form` meets its contract: the pairs alone.
 -- Assumes nothing.
 use borrow.Author.Needs.{needs}
+use Rattle.format.specs.Views.{viewOf, ofKind, sameKind, kindNumber}
 use Rattle.forms.specs.Entries.{stateValues, stateLevels}
-use Rattle.forms.proofs.FormLaws.{claim-listless, claim-formed}
+use Rattle.forms.proofs.ClaimForm.{claim-listless, claim-formed}
 use Rattle.forms.proofs.read_claim_form.Statement.{statement}
 use Rattle.forms.proofs.read_claim_form.Tie as tie
 
@@ -33,7 +34,7 @@ same-length-4 : tie.Need-same-length-4
 same-length-4 c = search needs
 
 returns-2 : tie.Need-returns-2
-unfolding stateValues stateLevels
+unfolding stateValues stateLevels viewOf ofKind sameKind kindNumber
 returns-2 c =
     let call = c .before .before .before .before .before .before .before in
     claim-formed (call .before .before .before .before .before .before .args .at) (call .read-pairs .ensures) (c .before .parts .given .1) (λ ps w. w)

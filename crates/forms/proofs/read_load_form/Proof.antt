@@ -14,13 +14,15 @@ use Rattle.numerals.specs.declared.signed.Signed.the-variants.{Whole}
 use Rattle.format.specs.Forms.{termBytes}
 use Rattle.format.specs.Words.{wordAt}
 use Rattle.format.specs.Parse.{readTerm}
-use Rattle.numerals.specs.Offsets.{signedAt}
+use Rattle.numerals.specs.internal.Offsets.{signedAt}
 use Rattle.format.proofs.Pieces.{term-inverse}
 use Rattle.items.proofs.ItemLaws.{byte-got}
-use Rattle.judging.proofs.Counts.{counted}
+use Rattle.judging.proofs.Counts.{counts-within}
+use Rattle.format.specs.Views.{viewOf, ofKind, sameKind, kindNumber}
 use Rattle.forms.specs.Entries.{loadRow, termsIn}
-use Rattle.forms.proofs.FormLaws.{signed-after, signed-kept, count-small}
-use Rattle.forms.proofs.FormLaws.{load-unspaced, load-lowless, load-one-bound, load-highless, load-listless, load-formed}
+use Rattle.forms.proofs.Gathered.{count-small}
+use Rattle.forms.proofs.FormLaws.{signed-after, signed-kept}
+use Rattle.forms.proofs.LoadForm.{load-unspaced, load-lowless, load-one-bound, load-highless, load-listless, load-formed}
 use Rattle.forms.proofs.read_load_form.Statement.{statement}
 use Rattle.forms.proofs.read_load_form.Tie as tie
 
@@ -100,7 +102,7 @@ read-terms-requires c κs =
     let high = c .before .before .before in
     let pre = high .before .before .before .before .before .before .before .before .before .before .before .before .before .pre in
     let n = signed-after _ _ (again (high .before .before .before)) (upper high) in
-    (record { reached = n .2 .inside; short = pre .0 .short }, counted _ (pre .1) .terms)
+    (record { reached = n .2 .inside; short = pre .0 .short }, counts-within _ (pre .1) .terms)
 
 enum-known-parts : tie.Need-enum-known-parts
 enum-known-parts c = search needs
@@ -128,7 +130,7 @@ store-load-requires c κs =
     let call = parts .before .before .before .before .before in
     let high = call .before .before .before .before in
     let pre = high .before .before .before .before .before .before .before .before .before .before .before .before .before .pre in
-    let bounds = counted _ (pre .1) in
+    let bounds = counts-within _ (pre .1) in
     let small = count-small termBytes readTerm term-inverse (high .high .given .0 .1 .0) (pre .0) (call .read-terms .ensures) (parts .parts .given .1) in
     (bounds .loads, omega (arith, bounds .terms), small)
 
@@ -148,7 +150,7 @@ same-length-5 : tie.Need-same-length-5
 same-length-5 c = search needs
 
 returns-6 : tie.Need-returns-6
-unfolding loadRow termsIn
+unfolding loadRow termsIn viewOf ofKind sameKind kindNumber
 returns-6 c =
     let store = c .before .before .before in
     let parts = store .before .before .before in

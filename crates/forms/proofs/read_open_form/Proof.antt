@@ -3,8 +3,9 @@
 use Prim.Native.Nat.{ℕ, _≤_}
 use mathlib.Core.Path.{sym, subst}
 use borrow.Author.Needs.{needs}
+use Rattle.tables.specs.Limits.{maxAtoms}
 use Rattle.judging.proofs.StateLaws.{bound-most}
-use Rattle.forms.proofs.OpenLaws.{open-none, open-some}
+use Rattle.forms.proofs.OpenForm.{open-none, open-some}
 use Rattle.forms.proofs.read_open_form.Statement.{statement}
 use Rattle.forms.proofs.read_open_form.Tie as tie
 
@@ -17,7 +18,7 @@ atom-bound-requires c κs = search needs
 read-atoms-requires : tie.Need-read-atoms-requires
 read-atoms-requires c κs =
     let start = c .before .before .before .before .before .before .before .before in
-    (start .pre .0, subst (λ (n : ℕ). n ≤ 1024) (sym (c .before .atom-bound .ensures)) (bound-most (start .args .reached) (start .pre .1)))
+    (start .pre .0, subst (λ (n : ℕ). n ≤ maxAtoms) (sym (c .before .atom-bound .ensures)) (bound-most (start .args .reached) (start .pre .1)))
 
 enum-known-parts : tie.Need-enum-known-parts
 enum-known-parts c = search needs

@@ -11,11 +11,14 @@ use Rattle.numerals.specs.declared.numbers.Number.the-variants.{Read}
 use Rattle.format.specs.Forms.{literalBytes}
 use Rattle.format.specs.Words.{wordAt}
 use Rattle.format.specs.Parse.{readLiteral}
-use Rattle.numerals.specs.Offsets.{numberAt}
+use Rattle.numerals.specs.internal.Offsets.{numberAt}
 use Rattle.format.proofs.Pieces.{literal-inverse}
-use Rattle.judging.proofs.Counts.{counted}
+use Rattle.judging.proofs.Counts.{counts-within}
+use Rattle.format.specs.Views.{viewOf, ofKind, sameKind, kindNumber}
 use Rattle.forms.specs.Entries.{ruleRow, literalsIn}
-use Rattle.forms.proofs.FormLaws.{number-after, count-small, rule-unspaced, rule-headless, rule-listless, rule-formed}
+use Rattle.forms.proofs.Gathered.{count-small}
+use Rattle.forms.proofs.FormLaws.{number-after}
+use Rattle.forms.proofs.RuleForm.{rule-unspaced, rule-headless, rule-listless, rule-formed}
 use Rattle.forms.proofs.read_rule_form.Statement.{statement}
 use Rattle.forms.proofs.read_rule_form.Tie as tie
 
@@ -55,7 +58,7 @@ read-literals-requires c κs =
     let head = c .before .before in
     let pre = head .before .before .before .before .before .before .before .before .pre in
     let n = number-after _ _ (spaced (head .before .before .before)) (headed head) in
-    (record { reached = n .2 .inside; short = pre .0 .short }, counted _ (pre .1) .literals)
+    (record { reached = n .2 .inside; short = pre .0 .short }, counts-within _ (pre .1) .literals)
 
 enum-known-parts : tie.Need-enum-known-parts
 enum-known-parts c = search needs
@@ -78,7 +81,7 @@ store-rule-requires c κs =
     let call = parts .before .before .before .before in
     let head = call .before .before .before in
     let pre = head .before .before .before .before .before .before .before .before .pre in
-    let bounds = counted _ (pre .1) in
+    let bounds = counts-within _ (pre .1) in
     let small = count-small literalBytes readLiteral literal-inverse (head .head .given .0 .1 .0) (pre .0) (call .read-literals .ensures) (parts .parts .given .1) in
     (bounds .rules, omega (arith, bounds .literals), small)
 
@@ -89,7 +92,7 @@ same-length-3 : tie.Need-same-length-3
 same-length-3 c = search needs
 
 returns-4 : tie.Need-returns-4
-unfolding ruleRow literalsIn
+unfolding ruleRow literalsIn viewOf ofKind sameKind kindNumber
 returns-4 c =
     let parts = c .before .before .before .before .before in
     let call = parts .before .before .before .before in

@@ -2,7 +2,7 @@
 -- Assumes nothing.
 use native.Mathlib.Omega.{arith}
 use borrow.Author.Needs.{needs}
-use Rattle.founding.proofs.FoundingLaws.{unmarked-set, row-marked, row-passes, row-marks}
+use Rattle.founding.proofs.FoundingLaws.{unmarked-set, found-row-again, found-row-none, found-row-puts}
 use Rattle.founding.proofs.found_row.Statement.{statement}
 use Rattle.founding.proofs.found_row.Tie as tie
 
@@ -13,7 +13,7 @@ slice-read-if1 : tie.Need-slice-read-if1
 slice-read-if1 c = let pre = c .before .before .before .before .before .before .pre in omega (arith, pre .1 .rows .heads _ (pre .0))
 
 returns : tie.Need-returns
-returns c = (row-marked _ _ _ _ _ _ (c .before .before .rule-head .ensures .is) (c .if1 .taken), omega arith)
+returns c = (found-row-again _ _ _ _ _ _ (c .before .before .rule-head .ensures .is) (c .if1 .taken), omega arith)
 
 row-founds-requires : tie.Need-row-founds-requires
 row-founds-requires c κs = search needs
@@ -29,7 +29,7 @@ same-length c = search needs
 returns-2 : tie.Need-returns-2
 returns-2 c =
     let pre = c .before .before .before .before .before .before .before .before .before .before .pre in (
-      row-marks _ _ _ _ _ _ (c .before .before .before .before .before .rule-head .ensures .is) (c .before .row-founds .ensures) (c .if2 .taken),
+      found-row-puts _ _ _ _ _ _ (c .before .before .before .before .before .rule-head .ensures .is) (c .before .row-founds .ensures) (c .if2 .taken),
       unmarked-set _ _ (omega (arith, pre .1 .rows .heads _ (pre .0))) (c .before .before .before .if1 .left),
     )
 
@@ -38,7 +38,7 @@ same-length-2 c = search needs
 
 returns-3 : tie.Need-returns-3
 returns-3 c = (
-  row-passes _ _ _ _ _ _ (c .before .before .before .before .before .rule-head .ensures .is) (c .before .row-founds .ensures) (c .if2 .left),
+  found-row-none _ _ _ _ _ _ (c .before .before .before .before .before .rule-head .ensures .is) (c .before .row-founds .ensures) (c .if2 .left),
   omega arith,
 )
 

@@ -3,8 +3,8 @@
 use Prim.Native.Nat.{_-_}
 use native.Mathlib.Omega.{arith}
 use lib.ListN.{length}
-use Rattle.founding.specs.Founding.{foundStart}
-use Rattle.founding.proofs.InPlace.{Written, written-start, written-turn, written-end}
+use Rattle.founding.specs.internal.Founding.{foundStart}
+use Rattle.wellfounded.proofs.InPlace.{Written, written-start, written-turn, written-end}
 use Rattle.founding.proofs.FoundingLaws.{startMark}
 use Rattle.founding.proofs.found_start.Statement.{statement}
 use Rattle.founding.proofs.found_start.Tie as tie

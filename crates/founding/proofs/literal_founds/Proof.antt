@@ -1,8 +1,8 @@
 -- `founding::literal_founds` meets its contract: each way out is a case of the definition.
 -- Assumes nothing.
 use borrow.Author.Needs.{needs}
-use Rattle.tables.specs.Marks.{isMarked}
-use Rattle.founding.specs.Founding.{founds}
+use Rattle.tables.specs.internal.Marks.{isMarked}
+use Rattle.founding.specs.internal.Founding.{founds}
 use Rattle.founding.proofs.literal_founds.Statement.{statement}
 use Rattle.founding.proofs.literal_founds.Tie as tie
 

@@ -5,7 +5,7 @@ use mathlib.Core.Path.{sym, _∙_}
 use native.Mathlib.Omega.{arith}
 use borrow.Author.Tests.{not-true, not-false}
 use Rattle.wellfounded.proofs.Scan.{Scanned, scan-start, scan-turn, scan-stop, scan-end}
-use Rattle.founding.specs.Founding.{founds}
+use Rattle.founding.specs.internal.Founding.{founds}
 use Rattle.founding.proofs.literals_found.Statement.{statement}
 use Rattle.founding.proofs.literals_found.Tie as tie
 

@@ -5,7 +5,7 @@ use Prim.Native.Nat.{_+_}
 use mathlib.Core.Path.{_≡_, _∙_}
 use native.Mathlib.Omega.{arith}
 use lib.ListN.{length}
-use Rattle.founding.specs.Founding.{unmarked}
+use Rattle.founding.specs.internal.Founding.{unmarked}
 use Rattle.founding.proofs.FoundingLaws.{Founding, foundFrom, found-from, founding-start, founding-turn, founding-end}
 use Rattle.founding.proofs.mark_founded.Statement.{statement}
 use Rattle.founding.proofs.mark_founded.Tie as tie

@@ -5,7 +5,7 @@ use borrow.Author.Needs.{needs}
 use borrow.Author.Tests.{lt-ltb, le-ltb}
 use Rattle.wellfounded.proofs.Literals.{held-at}
 use Rattle.tables.specs.Rows.{ruleBody}
-use Rattle.founding.specs.Founding.{rowFounds}
+use Rattle.founding.specs.internal.Founding.{rowFounds}
 use Rattle.founding.proofs.row_founds.Statement.{statement}
 use Rattle.founding.proofs.row_founds.Tie as tie
 

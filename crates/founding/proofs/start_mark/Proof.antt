@@ -2,7 +2,7 @@
 -- Assumes nothing.
 use borrow.Author.Tests.{ne-eqb}
 use borrow.Author.Needs.{needs}
-use Rattle.tables.specs.Marks.{isMarked}
+use Rattle.tables.specs.internal.Marks.{isMarked}
 use Rattle.tables.proofs.MarkLaws.{true-at}
 use Rattle.founding.proofs.FoundingLaws.{beyond-untrue}
 use Rattle.founding.proofs.start_mark.Statement.{statement}

@@ -12,7 +12,7 @@ use Rattle.numerals.specs.declared.numbers.Number.the-variants.{Read}
 use Rattle.format.specs.Forms.{decimal}
 use Rattle.format.specs.Words.{wordAt}
 use Rattle.format.specs.Parse.{readNumber}
-use Rattle.numerals.specs.Offsets.{numberAt, beyondLimits}
+use Rattle.numerals.specs.internal.Offsets.{numberAt, beyondLimits}
 use Rattle.format.proofs.Pieces.{number-inverse}
 use Rattle.items.proofs.ItemLaws.{number-none-read, byte-got}
 use Rattle.lists.proofs.ListLaws.{listing-refused, listing-unclosed, listing-end}

@@ -1,6 +1,6 @@
 -- `lists::read_literals` meets its contract: the literals read so far are counted, tested and stored.
 -- Assumes nothing.
-use Prim.Native.Nat.{ℕ, _+_, _-_}
+use Prim.Native.Nat.{ℕ, _+_, _-_, _*_}
 use mathlib.Core.Path.{_≡_, refl, sym, ap, subst, _∙_}
 use mathlib.Core.Bool.{Bool, true, _&&_}
 use mathlib.Core.List.{[], _∷_}
@@ -9,21 +9,22 @@ use lib.Dec.{ltb}
 use lib.ListN.{length}
 use borrow.Author.Needs.{needs}
 use borrow.Author.Tests.{not-true, not-false}
+use Rattle.tables.specs.Limits.{maxAtoms}
 use Rattle.format.specs.Forms.{LiteralText, literalBytes, space, closing}
 use Rattle.format.specs.Words.{wordAt}
 use Rattle.format.specs.Parse.{readLiteral}
-use Rattle.items.specs.Items.{cappedCode}
+use Rattle.items.specs.internal.Places.{cappedCode}
 use Rattle.format.proofs.Pieces.{literal-inverse}
 use Rattle.items.proofs.ItemLaws.{GotAt, literal-got, literal-none, byte-got}
 use Rattle.judging.specs.Judging.{literalWithin}
-use Rattle.lists.specs.Lists.{stored}
-use Rattle.lists.proofs.ListLaws.{LaidLiterals, Listing, listing-start, listing-turn, listing-refused, listing-unclosed, listing-end, literal-tested, literal-stored}
+use Rattle.lists.specs.internal.Lists.{stored}
+use Rattle.lists.proofs.ListLaws.{LaidLiterals, PartsRead, listing-start, listing-turn, listing-refused, listing-unclosed, listing-end, literal-tested, literal-stored}
 use Rattle.lists.proofs.read_literals.Statement.{statement}
 use Rattle.lists.proofs.read_literals.Tie as tie
 
 abbrev Inv-loop : tie.InvT-loop
 Inv-loop text at literals₀ from next₀ count₀ within₀ literals next count within =
-    (length literals ≡ length literals₀) × Listing readLiteral literalWithin (λ ls. true) text at next count within true (LaidLiterals literals₀ from literals)
+    (length literals ≡ length literals₀) × PartsRead readLiteral literalWithin (λ ls. true) text at next count within true (LaidLiterals literals₀ from literals)
 
 abbrev μ-loop : tie.MeasureT-loop
 μ-loop text at literals₀ from next₀ count₀ within₀ literals next count within = length text - next
@@ -87,7 +88,7 @@ loop-again c =
     subst (λ (code : ℕ). c .before .before .store .last .0 ≡ stored (ltb code 65536) (c .before .before .before .before .before .before .before .before .before .before .loop .literals) (start .args .from + c .before .before .before .before .before .before .before .before .before .before .loop .count) code) (got .1) (c .before .before .store .ensures) in (
       c .before .before .store .kept .0 ∙ inv .0,
       listing-turn literalBytes readLiteral literal-inverse (inv .1) (spaced (c .before .before .before .before .before .before .before .before)) (got .2) refl
-          (ap (λ (code : ℕ). c .before .before .before .before .before .before .before .before .before .before .loop .within && ltb code 2048) (got .1) ∙ ap (λ (b : Bool). c .before .before .before .before .before .before .before .before .before .before .loop .within && b) (literal-tested (got .0))) refl
+          (ap (λ (code : ℕ). c .before .before .before .before .before .before .before .before .before .before .loop .within && ltb code (2 * maxAtoms)) (got .1) ∙ ap (λ (b : Bool). c .before .before .before .before .before .before .before .before .before .before .loop .within && b) (literal-tested (got .0))) refl
           (λ ls n w t laid. literal-stored (start .args .literals .now) (c .before .before .before .before .before .before .before .before .before .before .loop .literals) (start .args .from) (c .before .before .store .last .0) (got .0) kept refl ls n t laid),
     )
 

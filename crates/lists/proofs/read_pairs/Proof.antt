@@ -12,7 +12,7 @@ use Rattle.items.specs.declared.pairs.Pair.the-variants.{Paired}
 use Rattle.format.specs.Forms.{pairBytes}
 use Rattle.format.specs.Words.{wordAt}
 use Rattle.format.specs.Parse.{readPair}
-use Rattle.items.specs.Items.{pairAt}
+use Rattle.items.specs.internal.Places.{pairAt}
 use Rattle.format.proofs.Pieces.{pair-inverse}
 use Rattle.items.proofs.ItemLaws.{byte-got, pair-none}
 use Rattle.lists.proofs.ListLaws.{listing-refused, listing-unclosed, listing-end}

@@ -12,7 +12,7 @@ use Rattle.items.specs.declared.terms.Term.the-variants.{Weighed}
 use Rattle.format.specs.Forms.{termBytes}
 use Rattle.format.specs.Words.{wordAt}
 use Rattle.format.specs.Parse.{readTerm}
-use Rattle.items.specs.Items.{termAt}
+use Rattle.items.specs.internal.Places.{termReadAt}
 use Rattle.format.proofs.Pieces.{term-inverse}
 use Rattle.items.proofs.ItemLaws.{byte-got, term-none}
 use Rattle.lists.proofs.ListLaws.{listing-refused, listing-unclosed, listing-end}
@@ -83,7 +83,7 @@ minutes-within-requires c κs = tt
 read :
     (c : tie.After-worked Inv-loop μ-loop) →
     let v = c .worked .given .0 in
-    termAt (c .before .before .before .before .before .before .before .before .args .text .now) (c .before .before .before .before .before .loop .next + 1) ≡ Weighed (v .0) (v .1 .0) (v .1 .1 .0)
+    termReadAt (c .before .before .before .before .before .before .before .before .args .text .now) (c .before .before .before .before .before .loop .next + 1) ≡ Weighed (v .0) (v .1 .0) (v .1 .1 .0)
 read c = sym (c .before .before .read-term .ensures) ∙ c .worked .given .1
 
 add-count : tie.Need-add-count Inv-loop μ-loop

@@ -1,7 +1,9 @@
 -- `outcome::book_outcome` meets its contract: a claim is checked and an open form evaluated, from the used parts of the tables.
 -- Assumes nothing.
 use borrow.Author.Needs.{needs}
-use Rattle.forms.specs.Entries.{Contents, lentTables}
+use Rattle.judging.specs.LentTables.{Rules, Literals, Clauses, Loads, LoadLiterals, Minutes, Values, Levels}
+use Rattle.forms.specs.Contents.{Contents, lentTables}
+use Rattle.outcome.specs.internal.Promises.{usedIn}
 use Rattle.outcome.proofs.OutcomeLaws.{refused-comes, open-comes, claim-comes}
 use Rattle.outcome.proofs.book_outcome.Statement.{statement}
 use Rattle.outcome.proofs.book_outcome.Tie as tie
@@ -22,8 +24,8 @@ part-used-rules-start : tie.Need-part-used-rules-start
 part-used-rules-start c = search needs
 
 part-used-rules-end : tie.Need-part-used-rules-end
-unfolding lentTables
-part-used-rules-end c = search needs
+unfolding lentTables usedIn
+part-used-rules-end c = search (needs, c .before .before .before .before .before .before .before .before .pre .0 .each Rules)
 
 sub-used-literals : tie.Need-sub-used-literals
 sub-used-literals c = search needs
@@ -32,8 +34,8 @@ part-used-literals-start : tie.Need-part-used-literals-start
 part-used-literals-start c = search needs
 
 part-used-literals-end : tie.Need-part-used-literals-end
-unfolding lentTables
-part-used-literals-end c = search needs
+unfolding lentTables usedIn
+part-used-literals-end c = search (needs, c .before .before .before .before .before .before .before .before .before .pre .0 .each Literals)
 
 sub-used-clauses : tie.Need-sub-used-clauses
 sub-used-clauses c = search needs
@@ -42,8 +44,8 @@ part-used-clauses-start : tie.Need-part-used-clauses-start
 part-used-clauses-start c = search needs
 
 part-used-clauses-end : tie.Need-part-used-clauses-end
-unfolding lentTables
-part-used-clauses-end c = search needs
+unfolding lentTables usedIn
+part-used-clauses-end c = search (needs, c .before .before .before .before .before .before .before .before .before .before .pre .0 .each Clauses)
 
 sub-used-loads : tie.Need-sub-used-loads
 sub-used-loads c = search needs
@@ -52,8 +54,8 @@ part-used-loads-start : tie.Need-part-used-loads-start
 part-used-loads-start c = search needs
 
 part-used-loads-end : tie.Need-part-used-loads-end
-unfolding lentTables
-part-used-loads-end c = search needs
+unfolding lentTables usedIn
+part-used-loads-end c = search (needs, c .before .before .before .before .before .before .before .before .before .before .before .pre .0 .each Loads)
 
 sub-used-load-literals : tie.Need-sub-used-load-literals
 sub-used-load-literals c = search needs
@@ -62,8 +64,8 @@ part-used-load-literals-start : tie.Need-part-used-load-literals-start
 part-used-load-literals-start c = search needs
 
 part-used-load-literals-end : tie.Need-part-used-load-literals-end
-unfolding lentTables
-part-used-load-literals-end c = search needs
+unfolding lentTables usedIn
+part-used-load-literals-end c = search (needs, c .before .before .before .before .before .before .before .before .before .before .before .before .pre .0 .each LoadLiterals)
 
 sub-used-minutes : tie.Need-sub-used-minutes
 sub-used-minutes c = search needs
@@ -72,8 +74,8 @@ part-used-minutes-start : tie.Need-part-used-minutes-start
 part-used-minutes-start c = search needs
 
 part-used-minutes-end : tie.Need-part-used-minutes-end
-unfolding lentTables
-part-used-minutes-end c = search needs
+unfolding lentTables usedIn
+part-used-minutes-end c = search (needs, c .before .before .before .before .before .before .before .before .before .before .before .before .before .pre .0 .each Minutes)
 
 sub-used-given : tie.Need-sub-used-given
 sub-used-given c = search needs
@@ -82,8 +84,8 @@ part-used-given-start : tie.Need-part-used-given-start
 part-used-given-start c = search needs
 
 part-used-given-end : tie.Need-part-used-given-end
-unfolding lentTables
-part-used-given-end c = search needs
+unfolding lentTables usedIn
+part-used-given-end c = search (needs, c .before .before .before .before .before .before .before .before .before .before .before .before .before .before .pre .0 .each Values)
 
 sub-used-levels : tie.Need-sub-used-levels
 sub-used-levels c = search needs
@@ -92,8 +94,8 @@ part-used-levels-start : tie.Need-part-used-levels-start
 part-used-levels-start c = search needs
 
 part-used-levels-end : tie.Need-part-used-levels-end
-unfolding lentTables
-part-used-levels-end c = search needs
+unfolding lentTables usedIn
+part-used-levels-end c = search (needs, c .before .before .before .before .before .before .before .before .before .before .before .before .before .before .before .pre .0 .each Levels)
 
 enum-told : tie.Need-enum-told
 enum-told c = search needs

@@ -2,46 +2,56 @@
 -- Assumes nothing.
 use mathlib.Core.Path.{refl}
 use borrow.Author.Needs.{needs}
-use Rattle.forms.specs.Entries.{lentTables}
+use Rattle.forms.specs.Contents.{lentTables}
+use Rattle.judging.specs.LentTables.{spaceWith, fullSize}
 use Rattle.booktext.specs.Answers.{spaceOf}
 use Rattle.outcome.specs.Outcomes.{fullSpace}
 use Rattle.outcome.proofs.OutcomeLaws.{text-read}
 use Rattle.outcome.proofs.outcome_of.Statement.{statement}
 use Rattle.outcome.proofs.outcome_of.Tie as tie
 
--- The text was read, before the tables were lent again.
-abbrev was-read : tie.After-book-outcome-arg2 → tie.After-read-once
-was-read c = c .before .before .before .before .before .before .before .before .before .before .before .before .before .before .before .before .before .before
+-- The walk was answered, before the tables were lent again; it was made in the sizes of full tables.
+abbrev answered : tie.After-book-outcome-arg2 → tie.After-answer-of
+answered c = c .before .before .before .before .before .before .before .before .before .before
 
-abbrev began : tie.After-read-once → tie.Start
-began c = c .before .before .before .before .before .before .before .before .before .before .before .before
+abbrev walked : tie.After-answer-of → tie.After-walk
+walked c = c .before .before .before .before .before .before .before .before .before
 
-slice-aggregate-read-once : tie.Need-slice-aggregate-read-once
-slice-aggregate-read-once c = search needs
+abbrev sized : tie.After-walk → tie.After-full-space
+sized c = c .before .before .before .before .before .before .before .before .before
 
-slice-aggregate-read-once-2 : tie.Need-slice-aggregate-read-once-2
-slice-aggregate-read-once-2 c = search needs
+full-space-requires : tie.Need-full-space-requires
+full-space-requires c κs = tt
 
-slice-aggregate-read-once-3 : tie.Need-slice-aggregate-read-once-3
-slice-aggregate-read-once-3 c = search needs
+slice-aggregate-walk : tie.Need-slice-aggregate-walk
+slice-aggregate-walk c = search needs
 
-slice-aggregate-read-once-4 : tie.Need-slice-aggregate-read-once-4
-slice-aggregate-read-once-4 c = search needs
+slice-aggregate-walk-2 : tie.Need-slice-aggregate-walk-2
+slice-aggregate-walk-2 c = search needs
 
-slice-aggregate-read-once-5 : tie.Need-slice-aggregate-read-once-5
-slice-aggregate-read-once-5 c = search needs
+slice-aggregate-walk-3 : tie.Need-slice-aggregate-walk-3
+slice-aggregate-walk-3 c = search needs
 
-slice-aggregate-read-once-6 : tie.Need-slice-aggregate-read-once-6
-slice-aggregate-read-once-6 c = search needs
+slice-aggregate-walk-4 : tie.Need-slice-aggregate-walk-4
+slice-aggregate-walk-4 c = search needs
 
-slice-aggregate-read-once-7 : tie.Need-slice-aggregate-read-once-7
-slice-aggregate-read-once-7 c = search needs
+slice-aggregate-walk-5 : tie.Need-slice-aggregate-walk-5
+slice-aggregate-walk-5 c = search needs
 
-slice-aggregate-read-once-8 : tie.Need-slice-aggregate-read-once-8
-slice-aggregate-read-once-8 c = search needs
+slice-aggregate-walk-6 : tie.Need-slice-aggregate-walk-6
+slice-aggregate-walk-6 c = search needs
 
-read-once-requires : tie.Need-read-once-requires
-read-once-requires c κs = search needs
+slice-aggregate-walk-7 : tie.Need-slice-aggregate-walk-7
+slice-aggregate-walk-7 c = search needs
+
+slice-aggregate-walk-8 : tie.Need-slice-aggregate-walk-8
+slice-aggregate-walk-8 c = search needs
+
+walk-requires : tie.Need-walk-requires
+walk-requires c κs = tt
+
+answer-of-requires : tie.Need-answer-of-requires
+answer-of-requires c κs = tt
 
 slice-aggregate-book-outcome : tie.Need-slice-aggregate-book-outcome
 slice-aggregate-book-outcome c = search needs
@@ -68,8 +78,12 @@ slice-aggregate-book-outcome-8 : tie.Need-slice-aggregate-book-outcome-8
 slice-aggregate-book-outcome-8 c = search needs
 
 book-outcome-requires : tie.Need-book-outcome-requires
-unfolding spaceOf lentTables fullSpace
-book-outcome-requires c κs = (text-read _ _ _ _ refl (was-read c .read-once .ensures) .fit, began (was-read c) .pre)
+unfolding spaceOf lentTables fullSpace spaceWith fullSize
+book-outcome-requires c κs =
+    let answer = answered c in
+    let walk = walked answer in
+    let size = sized walk in
+    (text-read _ _ refl (size .full-space .ensures) (walk .walk .ensures) (answer .answer-of .ensures) .fit, size .before .before .before .before .pre)
 
 same-length : tie.Need-same-length
 same-length c = c .before .before .before .before .book-outcome .kept .1 .1 .1 .1 .1 .1 .1 .1 .1 .0
@@ -78,24 +92,28 @@ same-length-2 : tie.Need-same-length-2
 same-length-2 c = c .before .before .before .before .book-outcome .kept .1 .1 .1 .1 .1 .1 .1 .1 .1 .1 .0
 
 returns : tie.Need-returns
-unfolding spaceOf lentTables fullSpace
+unfolding spaceOf lentTables fullSpace spaceWith fullSize
 returns c =
-    let read = text-read _ _ _ _ refl (was-read (c .before .before .before .before .before) .read-once .ensures) in
+    let answer = answered (c .before .before .before .before .before) in
+    let walk = walked answer in
+    let read = text-read _ _ refl (sized walk .full-space .ensures) (walk .walk .ensures) (answer .answer-of .ensures) in
     rw (← (read .comes)) (c .before .before .before .before .book-outcome .ensures)
 
 pub outcome-of-spec : {M : Type 1} → statement M
 outcome-of-spec =
     tie.close
     (tie.spec
-    slice-aggregate-read-once
-    slice-aggregate-read-once-2
-    slice-aggregate-read-once-3
-    slice-aggregate-read-once-4
-    slice-aggregate-read-once-5
-    slice-aggregate-read-once-6
-    slice-aggregate-read-once-7
-    slice-aggregate-read-once-8
-    read-once-requires
+    full-space-requires
+    slice-aggregate-walk
+    slice-aggregate-walk-2
+    slice-aggregate-walk-3
+    slice-aggregate-walk-4
+    slice-aggregate-walk-5
+    slice-aggregate-walk-6
+    slice-aggregate-walk-7
+    slice-aggregate-walk-8
+    walk-requires
+    answer-of-requires
     slice-aggregate-book-outcome
     slice-aggregate-book-outcome-2
     slice-aggregate-book-outcome-3

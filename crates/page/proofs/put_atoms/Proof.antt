@@ -2,20 +2,20 @@
 -- Assumes nothing.
 use Prim.Native.Nat.{_+_, _-_, _≤_}
 use native.Mathlib.Omega.{arith}
-use Rattle.page.specs.Pages.{joinBelow, levelLines, Puts}
+use Rattle.page.specs.Pages.{atomsAt}
 use Rattle.page.proofs.PutLaws.{puts-length}
-use Rattle.page.proofs.PageLaws.{puts-more, listing-start, levels-room, levels-end}
+use Rattle.page.proofs.Listing.{Listed, listed-start, levels-room, levels-put, levels-listed}
 use Rattle.page.proofs.put_atoms.Statement.{statement}
 use Rattle.page.proofs.put_atoms.Tie as tie
 
 abbrev Inv-loop : tie.InvT-loop
-Inv-loop page₀ at values levels rounds next₀ level₀ page next level = (level ≤ rounds + 1) × Puts page₀ at (joinBelow level (levelLines values levels)) next page
+Inv-loop page₀ at values levels rounds next₀ level₀ page next level = (level ≤ rounds + 1) × Listed page₀ at values levels (atomsAt levels) level next page
 
 abbrev μ-loop : tie.MeasureT-loop
 μ-loop page₀ at values levels rounds next₀ level₀ page next level = rounds + 1 - level
 
 loop-holds : tie.Need-loop-holds Inv-loop μ-loop
-loop-holds c = (omega arith, listing-start _ _ _)
+loop-holds c = (omega arith, listed-start _ _ _ _ _)
 
 put-level-requires : tie.Need-put-level-requires Inv-loop μ-loop
 put-level-requires c κs =
@@ -29,13 +29,13 @@ loop-less : tie.Need-loop-less Inv-loop μ-loop
 loop-less c = omega arith
 
 loop-again : tie.Need-loop-again Inv-loop μ-loop
-loop-again c = (omega arith, puts-more _ (levelLines _ _) (c .before .before .before .before .before .loop .inv .1) (c .before .before .put-level .ensures))
+loop-again c = (omega arith, levels-put _ _ _ _ _ _ _ _ _ (c .before .before .before .before .before .loop .inv .1) (c .before .before .put-level .ensures))
 
 same-length : tie.Need-same-length Inv-loop μ-loop
 same-length c = puts-length (c .before .loop .inv .1)
 
 returns : tie.Need-returns Inv-loop μ-loop
-returns c = levels-end _ _ _ _ _ _ _ _ (omega arith) (c .before .loop .inv .0) (c .before .loop .inv .1)
+returns c = levels-listed _ _ _ _ _ _ _ _ (omega arith) (c .before .loop .inv .0) (c .before .loop .inv .1)
 
 pub put-atoms-spec : {M : Type 1} → statement M
 put-atoms-spec =

@@ -4,19 +4,20 @@ use Prim.Native.Nat.{_-_, _≤_}
 use mathlib.Core.Logic.{⊎-elim}
 use native.Mathlib.Omega.{arith}
 use lib.ListN.{length}
+use Rattle.page.specs.Pages.{atomAt}
 use Rattle.page.proofs.PutLaws.{puts-length}
-use Rattle.page.proofs.PageLaws.{Listing, listing-start, listing-room, listing-put, listing-skip, listing-end}
+use Rattle.page.proofs.Listing.{Listed, listed-start, atoms-room, atoms-put, atoms-skip, atoms-end}
 use Rattle.page.proofs.put_level.Statement.{statement}
 use Rattle.page.proofs.put_level.Tie as tie
 
 abbrev Inv-loop : tie.InvT-loop
-Inv-loop page₀ at values levels level next₀ atom₀ page next atom = (atom ≤ length levels) × Listing page₀ at values levels level atom next page
+Inv-loop page₀ at values levels level next₀ atom₀ page next atom = (atom ≤ length levels) × Listed page₀ at values levels (atomAt levels level) atom next page
 
 abbrev μ-loop : tie.MeasureT-loop
 μ-loop page₀ at values levels level next₀ atom₀ page next atom = length levels - atom
 
 loop-holds : tie.Need-loop-holds Inv-loop μ-loop
-loop-holds c = (omega arith, listing-start _ _ _)
+loop-holds c = (omega arith, listed-start _ _ _ _ _)
 
 mul-if1 : tie.Need-mul-if1 Inv-loop μ-loop
 mul-if1 c = omega arith
@@ -40,7 +41,7 @@ put-atom-requires c κs =
       omega (arith, pre .0 .few),
       omega (arith, c .shared-slice-known4 .given (c .before .before .before .before .before .loop .atom)),
       pre .1 .0,
-      listing-room _ _ _ _ _ _ _ _ (omega arith) (pre .1 .1) (inv .1),
+      atoms-room _ _ _ _ _ _ _ _ (omega arith) (pre .1 .1) (inv .1),
     )
 
 add-atom : tie.Need-add-atom Inv-loop μ-loop
@@ -54,8 +55,8 @@ loop-again c =
     let inv = c .before .before .before .loop .inv in (
       omega arith,
       ⊎-elim
-          (λ w. rw (w .6, w .7) (listing-put _ _ _ _ _ _ _ _ _ _ (w .0 .taken) (inv .1) (w .3 .ensures)))
-          (λ w. rw (w .1, w .2) (listing-skip _ _ _ _ _ _ _ _ (w .0 .left) (inv .1)))
+          (λ w. rw (w .6, w .7) (atoms-put _ _ _ _ _ _ _ _ _ _ (w .0 .taken) (inv .1) (w .3 .ensures)))
+          (λ w. rw (w .1, w .2) (atoms-skip _ _ _ _ _ _ _ _ (w .0 .left) (inv .1)))
           (c .if1 .came),
     )
 
@@ -63,7 +64,7 @@ same-length : tie.Need-same-length Inv-loop μ-loop
 same-length c = puts-length (c .before .loop .inv .1)
 
 returns : tie.Need-returns Inv-loop μ-loop
-returns c = listing-end _ _ _ _ _ _ _ _ (omega arith) (c .before .loop .inv .0) (c .before .loop .inv .1)
+returns c = atoms-end _ _ _ _ _ _ _ _ (omega arith) (c .before .loop .inv .0) (c .before .loop .inv .1)
 
 pub put-level-spec : {M : Type 1} → statement M
 put-level-spec =

@@ -2,7 +2,8 @@
 -- Assumes nothing.
 use native.Mathlib.Omega.{arith}
 use borrow.Author.Needs.{needs}
-use Rattle.page.proofs.PageLaws.{page-plain, page-whole, page-room}
+use Rattle.page.proofs.Listing.{page-plain, page-whole}
+use Rattle.page.proofs.Lengths.{page-room}
 use Rattle.page.proofs.put_page.Statement.{statement}
 use Rattle.page.proofs.put_page.Tie as tie
 

@@ -2,7 +2,8 @@
 -- Assumes nothing.
 use native.Mathlib.Omega.{arith}
 use borrow.Author.Needs.{needs}
-use Rattle.page.proofs.PageLaws.{number-small, position-small, verdict-accepted, verdict-refused}
+use Rattle.page.proofs.Listing.{refused-position, verdict-accepted, verdict-refused}
+use Rattle.tables.proofs.Numbers.{number-bounds}
 use Rattle.page.proofs.put_verdict.Statement.{statement}
 use Rattle.page.proofs.put_verdict.Tie as tie
 
@@ -25,13 +26,13 @@ fault-number-requires : tie.Need-fault-number-requires
 fault-number-requires c κs = search needs
 
 put-numbered-requires : tie.Need-put-numbered-requires
-put-numbered-requires c κs = (omega (arith, c .fault-number .ensures, number-small (c .before .before .before .before .verdict .given .0 .0)), omega (arith, c .before .before .before .before .before .before .before .pre .1))
+put-numbered-requires c κs = (omega (arith, c .fault-number .ensures, number-bounds (c .before .before .before .before .verdict .given .0 .0) .1), omega (arith, c .before .before .before .before .before .before .before .pre .1))
 
 slice-aggregate-put-numbered-2 : tie.Need-slice-aggregate-put-numbered-2
 slice-aggregate-put-numbered-2 c = search needs
 
 put-numbered-requires-2 : tie.Need-put-numbered-requires-2
-put-numbered-requires-2 c κs = (position-small _ _ _ (c .before .before .before .before .before .before .before .before .before .verdict .given .1) (c .before .before .before .before .before .before .before .before .before .before .before .before .pre .0), omega (arith, c .before .before .before .before .put-numbered .ensures .1, c .before .before .before .before .before .before .before .before .before .before .before .before .pre .1))
+put-numbered-requires-2 c κs = (refused-position _ _ _ (c .before .before .before .before .before .before .before .before .before .verdict .given .1) (c .before .before .before .before .before .before .before .before .before .before .before .before .pre .0), omega (arith, c .before .before .before .before .put-numbered .ensures .1, c .before .before .before .before .before .before .before .before .before .before .before .before .pre .1))
 
 slice-aggregate-put-2 : tie.Need-slice-aggregate-put-2
 slice-aggregate-put-2 c = search needs

@@ -3,7 +3,7 @@
 use mathlib.Core.Path.{ap₂}
 use mathlib.Core.Bool.{Bool, _&&_}
 use borrow.Author.Needs.{needs}
-use Rattle.report.proofs.ReportLaws.{report-short, few-atoms, printable, report-written}
+use Rattle.report.proofs.ReportLaws.{report-short, atoms-within, printable, report-written}
 use Rattle.report.proofs.report.Statement.{statement}
 use Rattle.report.proofs.report.Tie as tie
 
@@ -33,7 +33,7 @@ part-put-page-start c = search needs
 
 part-put-page-end : tie.Need-part-put-page-end
 part-put-page-end c =
-    let few = few-atoms _ _ _ (c .before .before .before .before .before .before .outcome-of .ensures) in
+    let few = atoms-within _ _ _ (c .before .before .before .before .before .before .outcome-of .ensures) in
     let long = c .before .before .before .before .before .before .outcome-of .kept .1 .0 in
     search needs
 
@@ -45,7 +45,7 @@ part-put-page-start-2 c = search needs
 
 part-put-page-end-2 : tie.Need-part-put-page-end-2
 part-put-page-end-2 c =
-    let few = few-atoms _ _ _ (c .before .before .before .before .before .before .before .before .outcome-of .ensures) in
+    let few = atoms-within _ _ _ (c .before .before .before .before .before .before .before .before .outcome-of .ensures) in
     let long = c .before .before .before .before .before .before .before .before .outcome-of .kept .1 .1 .0 in
     search needs
 

@@ -2,7 +2,7 @@
 -- Assumes nothing.
 use native.Mathlib.Omega.{arith}
 use borrow.Author.Needs.{needs}
-use Rattle.checker.proofs.LevelScans.{blocks-read}
+use Rattle.checker.proofs.LevelReads.{blocks-read}
 use Rattle.checker.proofs.blocking.literal_blocks.Statement.{statement}
 use Rattle.checker.proofs.blocking.literal_blocks.Tie as tie
 
@@ -31,9 +31,9 @@ sub-result : tie.Need-sub-result
 sub-result c = search needs
 
 returns : tie.Need-returns
-returns c = λ d atom ranged same.
+returns c =
     let pre = c .before .before .before .before .before .before .before .pre in
-    rw (blocks-read ranged atom _ (pre .1 .value) (rw same (pre .2)), ← c .before .before .atom-of .ensures, same)
+    rw (blocks-read _ _ _ _ (pre .1 .value) (pre .2), ← c .before .before .atom-of .ensures)
 
 pub literal-blocks-spec : {M : Type 1} → statement M
 literal-blocks-spec =

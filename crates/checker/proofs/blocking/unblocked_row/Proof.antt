@@ -4,10 +4,9 @@ use Prim.Native.Nat.{_-_}
 use mathlib.Core.Path.{_≡_, refl, _∙_}
 use native.Mathlib.Omega.{arith}
 use borrow.Author.Needs.{needs}
-use Rattle.wellfounded.specs.Levels.{levelAt}
 use Rattle.tables.specs.declared.Found.the-variants.{Nothing}
 use Rattle.tables.proofs.Faults.{search-start, search-end}
-use Rattle.checker.proofs.LevelScans.{row-head, Passed, row-passed, RowScan, row-start, row-reached, row-turn, row-stop, row-end}
+use Rattle.checker.proofs.RowReads.{row-head, SearchedRows, row-passed, RowScan, row-start, row-reached, row-turn, row-stop, row-end}
 use Rattle.checker.proofs.blocking.unblocked_row.Statement.{statement}
 use Rattle.checker.proofs.blocking.unblocked_row.Tie as tie
 
@@ -19,7 +18,7 @@ abbrev μ-loop : tie.MeasureT-loop
 μ-loop rules literals values levels rows next found row head start size level i₀ i = size - i
 
 abbrev Inv-rows : tie.InvT-rows
-Inv-rows rules literals values levels rows next₀ found₀ next found = Passed rules literals values levels next × (found ≡ Nothing)
+Inv-rows rules literals values levels rows next₀ found₀ next found = SearchedRows rules literals values levels next × (found ≡ Nothing)
 
 abbrev μ-rows : tie.MeasureT-rows
 μ-rows rules literals values levels rows next₀ found₀ next found = rows - next
@@ -38,7 +37,7 @@ rule-head-requires c κs = omega arith
 
 shared-slice-read-if1 : tie.Need-shared-slice-read-if1 Inv-loop μ-loop Inv-rows μ-rows
 shared-slice-read-if1 c =
-    row-head (c .before .before .before .before .before .before .before .before .before .pre .0) (omega arith) (c .before .rule-head .ensures .is)
+    row-head (c .before .before .before .before .before .before .before .before .before .pre .levelled .rows) (omega arith) (c .before .rule-head .ensures .is)
 
 rows-less : tie.Need-rows-less Inv-loop μ-loop Inv-rows μ-rows
 rows-less c = omega arith
@@ -47,7 +46,7 @@ rows-again : tie.Need-rows-again Inv-loop μ-loop Inv-rows μ-rows
 rows-again c =
     let pre = c .before .before .before .before .before .before .before .before .before .before .pre in
     let found = c .before .before .before .before .rows .inv in
-    (row-passed (pre .0) (pre .1) (omega arith) (c .before .before .rule-head .ensures .is) (found .0) (c .if1 .taken), found .1)
+    (row-passed pre (omega arith) (c .before .before .rule-head .ensures .is) (found .0) (c .if1 .taken), found .1)
 
 rule-start-requires : tie.Need-rule-start-requires Inv-loop μ-loop Inv-rows μ-rows
 rule-start-requires c κs = omega arith
@@ -61,13 +60,13 @@ mul-level c = omega arith
 shared-slice-read-level : tie.Need-shared-slice-read-level Inv-loop μ-loop Inv-rows μ-rows
 shared-slice-read-level c =
     let pre = c .before .before .before .before .before .before .before .before .before .before .before .before .before .pre in
-    let within = row-head (pre .0) (omega arith) (c .before .before .before .before .before .rule-head .ensures .is) in
+    let within = row-head (pre .levelled .rows) (omega arith) (c .before .before .before .before .before .rule-head .ensures .is) in
     omega arith
 
 loop-holds : tie.Need-loop-holds Inv-loop μ-loop Inv-rows μ-rows
 loop-holds c =
     let pre = c .before .before .before .before .before .before .before .before .before .before .before .before .before .pre in
-    row-start (pre .0) (pre .1) (omega arith) (c .before .before .before .before .before .rule-head .ensures .is)
+    row-start pre (omega arith) (c .before .before .before .before .before .rule-head .ensures .is)
     (c .before .before .before .before .before .before .before .rows .inv .0) (c .before .before .before .if1 .left)
     (c .before .before .rule-start .ensures .is) (c .before .rule-size .ensures .is)
 
@@ -90,10 +89,9 @@ rows-less-2 : tie.Need-rows-less-2 Inv-loop μ-loop Inv-rows μ-rows
 rows-less-2 c = omega arith
 
 rows-again-2 : tie.Need-rows-again-2 Inv-loop μ-loop Inv-rows μ-rows
-unfolding levelAt
 rows-again-2 c =
     let scan = c .before .before .before .before .loop .inv in (
-      row-stop scan (c .before .before .before .loop-test .taken) (c .before .literal-blocks .ensures _ _ (scan .at .read) refl) (c .if2 .taken),
+      row-stop scan (c .before .before .before .loop-test .taken) (c .before .literal-blocks .ensures) (c .if2 .taken),
       c .before .before .before .before .before .before .before .before .before .before .before .before .rows .inv .1,
     )
 
@@ -104,10 +102,9 @@ loop-less : tie.Need-loop-less Inv-loop μ-loop Inv-rows μ-rows
 loop-less c = omega arith
 
 loop-again : tie.Need-loop-again Inv-loop μ-loop Inv-rows μ-rows
-unfolding levelAt
 loop-again c =
     let scan = c .before .before .before .before .loop .inv in
-    row-turn scan (c .before .before .before .loop-test .taken) (c .before .literal-blocks .ensures _ _ (scan .at .read) refl) (c .if2 .left)
+    row-turn scan (c .before .before .before .loop-test .taken) (c .before .literal-blocks .ensures) (c .if2 .left)
 
 returns : tie.Need-returns Inv-loop μ-loop Inv-rows μ-rows
 returns c = c .before .rows .inv .1 ∙ search-end (omega arith) (c .before .rows .inv .0)

@@ -20,10 +20,10 @@ part-literals-support-end : tie.Need-part-literals-support-end
 part-literals-support-end c = search needs
 
 literals-support-requires : tie.Need-literals-support-requires
-literals-support-requires c κs = let pre = c .before .before .before .before .pre in (part-scannable (pre .0), pre .1, pre .2)
+literals-support-requires c κs = let pre = c .before .before .before .before .pre in (part-scannable (pre .0), pre .1)
 
 returns : tie.Need-returns
-returns c = λ d atom ranged at. c .literals-support .ensures d atom ranged at ∙ ap (all _) (part-body _ _ _)
+returns c = c .literals-support .ensures ∙ ap (all _) (part-body _ _ _)
 
 pub body-supports-spec : {M : Type 1} → statement M
 body-supports-spec =

@@ -1,7 +1,8 @@
--- `checker::support::literal_supports` meets its contract: its two tests are those of `supports-read`.
+-- `checker::support::literal_supports` meets its contract: its two tests are those of `supportsBelow`.
 -- Assumes nothing.
 use borrow.Author.Needs.{needs}
-use Rattle.checker.proofs.LevelScans.{supports-read}
+use Rattle.wellfounded.specs.Levels.{levelAt}
+use Rattle.checker.specs.internal.Scans.{supportsBelow}
 use Rattle.checker.proofs.support.literal_supports.Statement.{statement}
 use Rattle.checker.proofs.support.literal_supports.Tie as tie
 
@@ -18,14 +19,8 @@ shared-slice-read-result : tie.Need-shared-slice-read-result
 shared-slice-read-result c = search needs
 
 returns : tie.Need-returns
-returns c = λ d atom ranged same.
-    let pre = c .before .before .before .before .before .pre in
-    rw (
-      supports-read ranged atom _ (pre .0 .value) (rw same (pre .1)),
-      ← c .before .before .atom-of .ensures,
-      ← c .before .literal-true .ensures,
-      same,
-    )
+unfolding supportsBelow levelAt
+returns c = rw (← c .before .before .atom-of .ensures, ← c .before .literal-true .ensures)
 
 pub literal-supports-spec : {M : Type 1} → statement M
 literal-supports-spec =

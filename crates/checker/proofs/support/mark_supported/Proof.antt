@@ -5,19 +5,17 @@ use mathlib.Core.Bool.{_&&_}
 use mathlib.Core.Logic.{⊎-elim}
 use native.Mathlib.Omega.{arith}
 use lib.Dec.{eqb}
-use lib.ListN.{length}
 use borrow.Author.Needs.{needs}
-use Rattle.tables.specs.Rows.{ruleHead, definitionOf}
+use Rattle.tables.specs.Rows.{ruleHead}
 use Rattle.tables.proofs.MarkLaws.{Marked, marked-start, marked-end, row-puts, row-passes, row-again}
-use Rattle.checker.specs.Marks.{supportedBy}
-use Rattle.checker.proofs.Supported.{supportsRow}
+use Rattle.checker.specs.internal.Scans.{supportsRow, supportedBy}
 use Rattle.checker.proofs.support.mark_supported.Statement.{statement}
 use Rattle.checker.proofs.support.mark_supported.Tie as tie
 
 abbrev Inv-loop : tie.InvT-loop
 Inv-loop rules literals values levels supported₀ rows row₀ supported row =
     (row ≤ rows) ×
-    Marked (λ r atom. eqb (ruleHead rules r) atom && supportsRow (definitionOf (length values) rules literals) rules literals values levels r) supported₀ row supported
+    Marked (λ r atom. eqb (ruleHead rules r) atom && supportsRow rules literals values levels r) supported₀ row supported
 
 abbrev μ-loop : tie.MeasureT-loop
 μ-loop rules literals values levels supported₀ rows row₀ supported row = rows - row
@@ -34,17 +32,17 @@ rule-head-requires c κs = omega arith
 slice-read-if1 : tie.Need-slice-read-if1 Inv-loop μ-loop
 slice-read-if1 c =
     let pre = c .before .before .before .before .before .before .before .before .before .before .pre in
-    omega (arith, pre .0 .heads (c .before .before .before .loop .row) (omega arith))
+    omega (arith, pre .0 .rows .heads (c .before .before .before .loop .row) (omega arith))
 
 row-supports-requires : tie.Need-row-supports-requires Inv-loop μ-loop
 row-supports-requires c κs =
     let pre = c .before .before .before .before .before .before .before .before .before .before .before .pre in
-    (omega arith, (pre .0, pre .1 .0))
+    (omega arith, pre .0)
 
 slice-write-supported : tie.Need-slice-write-supported Inv-loop μ-loop
 slice-write-supported c =
     let pre = c .before .before .before .before .before .before .before .before .before .before .before .before .before .pre in
-    omega (arith, pre .0 .heads (c .before .before .before .before .before .before .loop .row) (omega arith))
+    omega (arith, pre .0 .rows .heads (c .before .before .before .before .before .before .loop .row) (omega arith))
 
 add-row : tie.Need-add-row Inv-loop μ-loop
 add-row c = omega arith

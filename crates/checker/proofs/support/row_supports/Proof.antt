@@ -1,13 +1,13 @@
 -- `checker::support::row_supports` meets its contract, field by field.
 -- Assumes nothing.
-use mathlib.Core.Path.{refl}
 use native.Mathlib.Omega.{arith}
 use borrow.Author.Needs.{needs}
 use borrow.Author.Tests.{ne-eqb}
 use Rattle.wellfounded.specs.Levels.{levelAt}
 use Rattle.tables.specs.Rows.{ruleBody}
 use Rattle.tables.proofs.MarkLaws.{true-at}
-use Rattle.checker.proofs.LevelScans.{head-high, row-head, row-body}
+use Rattle.checker.specs.internal.Scans.{supportsRow}
+use Rattle.checker.proofs.RowReads.{row-head, row-body}
 use Rattle.checker.proofs.support.row_supports.Statement.{statement}
 use Rattle.checker.proofs.support.row_supports.Tie as tie
 
@@ -17,13 +17,14 @@ rule-head-requires c κs = search needs
 shared-slice-read-if1 : tie.Need-shared-slice-read-if1
 shared-slice-read-if1 c =
     let pre = c .before .before .before .before .before .before .pre in
-    row-head (pre .1 .0) (pre .0) (c .before .rule-head .ensures .is)
+    row-head (pre .1 .rows) (pre .0) (c .before .rule-head .ensures .is)
 
 returns : tie.Need-returns
+unfolding supportsRow
 returns c =
     let pre = c .before .before .before .before .before .before .before .pre in
     let head = c .before .before .rule-head .ensures .is in
-    rw (← head, true-at _ _ (row-head (pre .1 .0) (pre .0) head), ne-eqb _ _ (c .if1 .taken))
+    rw (← head, true-at _ _ (row-head (pre .1 .rows) (pre .0) head), ne-eqb _ _ (c .if1 .taken))
 
 rule-start-requires : tie.Need-rule-start-requires
 rule-start-requires c κs = search needs
@@ -37,19 +38,18 @@ mul-body-supports c = search needs
 shared-slice-read-body-supports : tie.Need-shared-slice-read-body-supports
 shared-slice-read-body-supports c =
     let pre = c .before .before .before .before .before .before .before .before .before .before .pre in
-    let within = row-head (pre .1 .0) (pre .0) (c .before .before .before .before .before .rule-head .ensures .is) in
+    let within = row-head (pre .1 .rows) (pre .0) (c .before .before .before .before .before .rule-head .ensures .is) in
     omega arith
 
 body-supports-requires : tie.Need-body-supports-requires
 body-supports-requires c κs =
     let pre = c .before .before .before .before .before .before .before .before .before .before .pre in (
-      row-body (pre .1 .0) (pre .0) (c .before .before .rule-start .ensures .is) (c .before .rule-size .ensures .is),
-      omega arith,
-      head-high (pre .1 .0) (pre .0) (pre .1 .1) (c .before .before .before .before .before .rule-head .ensures .is),
+      row-body (pre .1 .rows) (pre .0) (c .before .before .rule-start .ensures .is) (c .before .rule-size .ensures .is),
+      pre .1 .long,
     )
 
 returns-2 : tie.Need-returns-2
-unfolding ruleBody levelAt
+unfolding supportsRow ruleBody levelAt
 returns-2 c =
     let pre = c .before .before .before .before .before .before .before .before .before .before .before .pre in
     let head = c .before .before .before .before .before .before .rule-head .ensures .is in
@@ -57,10 +57,10 @@ returns-2 c =
       ← head,
       ← c .before .before .before .rule-start .ensures .is,
       ← c .before .before .rule-size .ensures .is,
-      true-at _ _ (row-head (pre .1 .0) (pre .0) head),
+      true-at _ _ (row-head (pre .1 .rows) (pre .0) head),
       c .before .before .before .before .if1 .left,
     )
-    (c .body-supports .ensures _ _ (pre .1 .1) refl)
+    (c .body-supports .ensures)
 
 pub row-supports-spec : {M : Type 1} → statement M
 row-supports-spec =

@@ -8,7 +8,7 @@ use native.Mathlib.Omega.{arith}
 use lib.ListN.{length}
 use borrow.Author.Tests.{ne-eqb}
 use Rattle.wellfounded.specs.Literals.{isTrue, valueAt}
-use Rattle.tables.specs.Marks.{isMarked}
+use Rattle.tables.specs.internal.Marks.{isMarked}
 use Rattle.tables.proofs.Faults.{Searched, search-start, search-turn, search-stop, search-end}
 use Rattle.checker.proofs.Supported.{unsupported-at}
 use Rattle.checker.proofs.support.unsupported_atom.Statement.{statement}

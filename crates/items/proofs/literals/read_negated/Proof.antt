@@ -7,7 +7,7 @@ use borrow.Author.Needs.{needs}
 use borrow.Author.Tests.{not-true, not-false}
 use Rattle.format.specs.Forms.{notWord}
 use Rattle.format.specs.Words.{wordAt}
-use Rattle.numerals.specs.Offsets.{beyondLimits}
+use Rattle.numerals.specs.internal.Offsets.{beyondLimits}
 use Rattle.numerals.proofs.SignedLaws.{number-limit}
 use Rattle.items.proofs.ItemLaws.{word-got, byte-got}
 use Rattle.items.proofs.ItemChains.{negated-unopened, negated-atomless, negated-unclosed, negated-closed}

@@ -8,7 +8,7 @@ use borrow.Author.Needs.{needs}
 use borrow.Author.Tests.{not-true, not-false}
 use Rattle.numerals.specs.declared.numbers.Number.the-variants.{Read}
 use Rattle.format.specs.Words.{wordAt}
-use Rattle.numerals.specs.Offsets.{numberAt}
+use Rattle.numerals.specs.internal.Offsets.{numberAt}
 use Rattle.items.proofs.ItemLaws.{byte-got}
 use Rattle.items.proofs.ItemChains.{pair-unopened, pair-valueless, pair-unspaced, pair-levelless, pair-unclosed, pair-closed}
 use Rattle.items.proofs.pairs.read_pair.Statement.{statement}

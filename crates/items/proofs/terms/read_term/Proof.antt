@@ -10,7 +10,7 @@ use borrow.Author.Needs.{needs}
 use borrow.Author.Tests.{not-true, not-false}
 use Rattle.numerals.specs.declared.signed.Signed.the-variants.{Whole}
 use Rattle.format.specs.Words.{wordAt}
-use Rattle.numerals.specs.Offsets.{signedAt}
+use Rattle.numerals.specs.internal.Offsets.{signedAt}
 use Rattle.items.proofs.ItemLaws.{byte-got}
 use Rattle.items.proofs.ItemChains.{signed-fits, term-unopened, term-weightless, term-unspaced, term-literalless, term-unclosed, term-closed}
 use Rattle.items.proofs.terms.read_term.Statement.{statement}

@@ -1,7 +1,7 @@
 -- `judging::reached::judge_shape` meets its contract: limits, order and space are tested in turn.
 -- Assumes nothing.
 use borrow.Author.Needs.{needs}
-use Rattle.judging.proofs.ShapeLaws.{Limited, Ordered, limited-shape, ordered-shape, outside-limits, out-of-order, no-space, moves-on}
+use Rattle.judging.proofs.ShapeLaws.{Limited, Ordered, limited-shape, ordered-shape, shape-outside-limits, shape-out-of-order, shape-no-space, shape-moves-on}
 use Rattle.judging.proofs.reached.judge_shape.Statement.{statement}
 use Rattle.judging.proofs.reached.judge_shape.Tie as tie
 
@@ -12,7 +12,7 @@ counts-within-requires : tie.Need-counts-within-requires
 counts-within-requires c κs = search needs
 
 returns : tie.Need-returns
-returns c = outside-limits _ _ _ _ _ _ (c .before .before .before .after .ensures) (c .before .before .counts-within .ensures) (c .if1 .taken)
+returns c = shape-outside-limits _ _ _ _ _ _ (c .before .before .before .after .ensures) (c .before .before .counts-within .ensures) (c .if1 .taken)
 
 limited :
     (c : tie.Else1) →
@@ -27,7 +27,7 @@ parts-in-order-requires c κs = search needs
 
 returns-2 : tie.Need-returns-2
 returns-2 c =
-    out-of-order _ _ _ _ _ _ _ (limited (c .before .before .before)) (c .before .before .may-follow .ensures) (c .before .parts-in-order .ensures) (c .if2 .taken)
+    shape-out-of-order _ _ _ _ _ _ _ (limited (c .before .before .before)) (c .before .before .may-follow .ensures) (c .before .parts-in-order .ensures) (c .if2 .taken)
 
 ordered :
     (c : tie.Else2) →
@@ -42,10 +42,10 @@ fits-requires : tie.Need-fits-requires
 fits-requires c κs = search needs
 
 returns-3 : tie.Need-returns-3
-returns-3 c = no-space _ _ _ _ _ _ (ordered (c .before .before)) (c .before .fits2 .ensures) (c .if3 .taken)
+returns-3 c = shape-no-space _ _ _ _ _ _ (ordered (c .before .before)) (c .before .fits2 .ensures) (c .if3 .taken)
 
 returns-4 : tie.Need-returns-4
-returns-4 c = moves-on _ _ _ _ _ _ (ordered (c .before .before)) (c .before .fits2 .ensures) (c .if3 .left)
+returns-4 c = shape-moves-on _ _ _ _ _ _ (ordered (c .before .before)) (c .before .fits2 .ensures) (c .if3 .left)
 
 pub judge-shape-spec : {M : Type 1} → statement M
 judge-shape-spec =

@@ -1,17 +1,16 @@
 -- `lines::line::read_form` meets its contract: each kind is read on from after its word, and adds to its own tables.
 -- Assumes nothing.
 use borrow.Author.Needs.{needs}
-use mathlib.Core.Path.{refl}
 use Rattle.format.specs.declared.kinds.Kind.the-variants.{Atoms, Rule, Clause, Load, Open, Claim}
 use Rattle.format.specs.Words.{wordOf}
-use Rattle.forms.specs.Entries.{lentTables}
+use Rattle.forms.specs.Contents.{lentTables}
 use Rattle.forms.proofs.DispatchLaws.{inside-after, atoms-form, rule-form, clause-form, load-form, open-form, claim-form, no-kind}
 use Rattle.lines.proofs.line.read_form.Statement.{statement}
 use Rattle.lines.proofs.line.read_form.Tie as tie
 
 -- Before the kind was told the function began.
-abbrev begun : tie.After-kind-at → tie.Start
-begun c = c .before .before .before .before .before .before .before .before
+abbrev atStart : tie.After-kind-at → tie.Start
+atStart c = c .before .before .before .before .before .before .before .before
 
 kind-at-requires : tie.Need-kind-at-requires
 kind-at-requires c κs = search needs
@@ -26,7 +25,7 @@ read-atoms-form-requires : tie.Need-read-atoms-form-requires
 unfolding wordOf
 read-atoms-form-requires c κs =
     let here = c .before .before in
-    inside-after (begun here .pre .inside) (here .kind-at .ensures) Atoms (c .enum-told .given .1)
+    inside-after (atStart here .pre .inside) (here .kind-at .ensures) Atoms (c .enum-told .given .1)
 
 enum-told-2 : tie.Need-enum-told-2
 enum-told-2 c = search needs
@@ -38,7 +37,7 @@ read-rule-form-requires : tie.Need-read-rule-form-requires
 unfolding wordOf
 read-rule-form-requires c κs =
     let here = c .before .before .before .before in
-    (inside-after (begun here .pre .inside) (here .kind-at .ensures) Rule (c .before .before .enum-told2 .given .1), begun here .pre .counts)
+    (inside-after (atStart here .pre .inside) (here .kind-at .ensures) Rule (c .before .before .enum-told2 .given .1), atStart here .pre .counts)
 
 enum-told-3 : tie.Need-enum-told-3
 enum-told-3 c = search needs
@@ -50,7 +49,7 @@ read-clause-form-requires : tie.Need-read-clause-form-requires
 unfolding wordOf
 read-clause-form-requires c κs =
     let here = c .before .before .before .before in
-    (inside-after (begun here .pre .inside) (here .kind-at .ensures) Clause (c .before .before .enum-told3 .given .1), begun here .pre .counts)
+    (inside-after (atStart here .pre .inside) (here .kind-at .ensures) Clause (c .before .before .enum-told3 .given .1), atStart here .pre .counts)
 
 enum-told-4 : tie.Need-enum-told-4
 enum-told-4 c = search needs
@@ -62,7 +61,7 @@ read-load-form-requires : tie.Need-read-load-form-requires
 unfolding wordOf
 read-load-form-requires c κs =
     let here = c .before .before .before .before .before in
-    (inside-after (begun here .pre .inside) (here .kind-at .ensures) Load (c .before .before .before .enum-told4 .given .1), begun here .pre .counts)
+    (inside-after (atStart here .pre .inside) (here .kind-at .ensures) Load (c .before .before .before .enum-told4 .given .1), atStart here .pre .counts)
 
 enum-told-5 : tie.Need-enum-told-5
 enum-told-5 c = search needs
@@ -74,7 +73,7 @@ read-open-form-requires : tie.Need-read-open-form-requires
 unfolding wordOf
 read-open-form-requires c κs =
     let here = c .before .before .before in
-    (inside-after (begun here .pre .inside) (here .kind-at .ensures) Open (c .before .enum-told5 .given .1), begun here .pre .atoms)
+    (inside-after (atStart here .pre .inside) (here .kind-at .ensures) Open (c .before .enum-told5 .given .1), atStart here .pre .atoms)
 
 enum-told-6 : tie.Need-enum-told-6
 enum-told-6 c = search needs
@@ -86,7 +85,7 @@ read-claim-form-requires : tie.Need-read-claim-form-requires
 unfolding wordOf
 read-claim-form-requires c κs =
     let here = c .before .before .before .before in
-    inside-after (begun here .pre .inside) (here .kind-at .ensures) Claim (c .before .before .enum-told6 .given .1)
+    inside-after (atStart here .pre .inside) (here .kind-at .ensures) Claim (c .before .before .enum-told6 .given .1)
 
 enum-told-7 : tie.Need-enum-told-7
 enum-told-7 c = search needs
@@ -105,7 +104,7 @@ unfolding lentTables
 returns-2 c =
     let here = c .before .before .before .before in
     let told = here .before .before .before in
-    rule-form _ _ _ (told .before .before .kind-at .ensures) (told .enum-told2 .given .1) refl (here .read-rule-form .ensures)
+    rule-form _ _ (told .before .before .kind-at .ensures) _ _ (told .enum-told2 .given .1) (here .read-rule-form .ensures)
 
 same-length-3 : tie.Need-same-length-3
 same-length-3 c = search needs
@@ -118,7 +117,7 @@ unfolding lentTables
 returns-3 c =
     let here = c .before .before .before .before in
     let told = here .before .before .before in
-    clause-form _ _ _ (told .before .before .kind-at .ensures) (told .enum-told3 .given .1) refl (here .read-clause-form .ensures)
+    clause-form _ _ (told .before .before .kind-at .ensures) _ _ (told .enum-told3 .given .1) (here .read-clause-form .ensures)
 
 same-length-5 : tie.Need-same-length-5
 same-length-5 c = search needs
@@ -134,7 +133,7 @@ unfolding lentTables
 returns-4 c =
     let here = c .before .before .before .before in
     let told = here .before .before .before .before in
-    load-form _ _ _ (told .before .before .kind-at .ensures) (told .enum-told4 .given .1) refl (here .read-load-form .ensures)
+    load-form _ _ (told .before .before .kind-at .ensures) _ _ _ (told .enum-told4 .given .1) (here .read-load-form .ensures)
 
 same-length-8 : tie.Need-same-length-8
 same-length-8 c = search needs
@@ -144,7 +143,7 @@ unfolding lentTables
 returns-5 c =
     let here = c .before .before in
     let told = here .before .before in
-    open-form _ _ _ (told .before .before .kind-at .ensures) (told .enum-told5 .given .1) refl (here .read-open-form .ensures)
+    open-form _ _ (told .before .before .kind-at .ensures) _ (told .enum-told5 .given .1) (here .read-open-form .ensures)
 
 same-length-9 : tie.Need-same-length-9
 same-length-9 c = search needs
@@ -157,7 +156,7 @@ unfolding lentTables
 returns-6 c =
     let here = c .before .before .before .before in
     let told = here .before .before .before in
-    claim-form _ _ _ (told .before .before .kind-at .ensures) (told .enum-told6 .given .1) refl (here .read-claim-form .ensures)
+    claim-form _ _ (told .before .before .kind-at .ensures) _ _ (told .enum-told6 .given .1) (here .read-claim-form .ensures)
 
 returns-7 : tie.Need-returns-7
 returns-7 c = no-kind _ _ (c .before .before .kind-at .ensures) (c .enum-told7 .given .1)

@@ -37,7 +37,7 @@ use denote.Triple.Table.{entered, cited}
 use denote.Triple.Walked.{says, Stays, stay-none, stay-none-slice, walkOf, goes-none, goes-none-slice, Walks, ends-at, walked, walk-meets}
 use denote.Exit.{yes}
 use denote.Triple.Clauses.{ensured, lasts}
-use Rattle.numerals.specs.Offsets.{numberAt}
+use Rattle.numerals.specs.internal.Offsets.{numberAt}
 use Rattle.numerals.specs.declared.numbers.Number.{Number}
 use Rattle.numerals.specs.declared.reader.Reader.{Reader}
 use Rattle.numerals.proofs.numbers.Number as answer

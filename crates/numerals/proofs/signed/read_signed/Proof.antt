@@ -9,7 +9,7 @@ use mir.Syntax.{w32}
 use mir.Val.{toZ}
 use mir.Facts.{toZ-ofZ, toZ-pos}
 use borrow.Author.Needs.{needs}
-use Rattle.numerals.specs.Offsets.{beyondLimits, minusAt}
+use Rattle.numerals.specs.internal.Offsets.{beyondLimits, minusAt}
 use Rattle.numerals.proofs.SignedLaws.{minus-inside, signed-plain, signed-negated, number-limit}
 use Rattle.numerals.proofs.SignedLaws.{plain-read, plain-refused, negated-read, negated-zero, negated-refused, below-zero, below-zero-fits}
 use Rattle.numerals.proofs.signed.read_signed.Statement.{statement}

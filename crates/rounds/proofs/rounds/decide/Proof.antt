@@ -4,7 +4,7 @@ use Prim.Native.Nat.{_-_}
 use native.Mathlib.Omega.{arith}
 use lib.ListN.{length}
 use Rattle.wellfounded.proofs.Lists.{count-le}
-use Rattle.rounds.specs.Rounds.{decides}
+use Rattle.rounds.specs.internal.Deciding.{decides}
 use Rattle.rounds.proofs.RoundLaws.{atom-small, Deciding, deciding-start, deciding-room, deciding-turn, deciding-end}
 use Rattle.rounds.proofs.rounds.decide.Statement.{statement}
 use Rattle.rounds.proofs.rounds.decide.Tie as tie

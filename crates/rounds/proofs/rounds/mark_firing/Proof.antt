@@ -9,7 +9,7 @@ use lib.Dec.{eqb}
 use borrow.Author.Needs.{needs}
 use Rattle.tables.specs.Rows.{ruleHead}
 use Rattle.tables.proofs.MarkLaws.{Marked, marked-start, marked-end, row-puts, row-passes}
-use Rattle.rounds.specs.Rounds.{rowFires, firesBy}
+use Rattle.rounds.specs.internal.Firing.{rowFires, firesBy}
 use Rattle.rounds.proofs.rounds.mark_firing.Statement.{statement}
 use Rattle.rounds.proofs.rounds.mark_firing.Tie as tie
 

@@ -5,7 +5,7 @@ use borrow.Author.Needs.{needs}
 use borrow.Author.Tests.{lt-ltb, le-ltb}
 use Rattle.wellfounded.proofs.Literals.{held-at}
 use Rattle.tables.specs.Rows.{ruleBody}
-use Rattle.rounds.specs.Rounds.{rowFires}
+use Rattle.rounds.specs.internal.Firing.{rowFires}
 use Rattle.rounds.proofs.rounds.row_fires.Statement.{statement}
 use Rattle.rounds.proofs.rounds.row_fires.Tie as tie
 

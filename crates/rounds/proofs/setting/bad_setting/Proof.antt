@@ -7,7 +7,7 @@ use native.Mathlib.Omega.{arith}
 use lib.ListN.{length}
 use borrow.Author.Tests.{lt-ltb, le-ltb}
 use Rattle.tables.proofs.Faults.{Searched, search-start, search-turn, search-stop, search-end}
-use Rattle.rounds.specs.Rounds.{badStart}
+use Rattle.rounds.specs.internal.Starting.{badStart}
 use Rattle.rounds.proofs.SettingLaws.{bad-defined, bad-open}
 use Rattle.rounds.proofs.setting.bad_setting.Statement.{statement}
 use Rattle.rounds.proofs.setting.bad_setting.Tie as tie

@@ -4,7 +4,7 @@ use Prim.Native.Nat.{_-_}
 use mathlib.Core.Path.{refl, _∙_}
 use native.Mathlib.Omega.{arith}
 use lib.ListN.{length}
-use Rattle.founding.proofs.InPlace.{Written, written-start, written-turn, written-end}
+use Rattle.wellfounded.proofs.InPlace.{Written, written-start, written-turn, written-end}
 use Rattle.wellfounded.proofs.Lists.{tabulate-replicate}
 use Rattle.rounds.proofs.setting.clear.Statement.{statement}
 use Rattle.rounds.proofs.setting.clear.Tie as tie

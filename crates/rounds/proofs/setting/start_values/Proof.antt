@@ -5,8 +5,8 @@ use mathlib.Core.Path.{_∙_}
 use mathlib.Core.Logic.{⊎-elim}
 use native.Mathlib.Omega.{arith}
 use lib.ListN.{length}
-use Rattle.rounds.specs.Rounds.{startValues}
-use Rattle.founding.proofs.InPlace.{Written, written-start, written-turn, written-end}
+use Rattle.rounds.specs.internal.Starting.{startValues}
+use Rattle.wellfounded.proofs.InPlace.{Written, written-start, written-turn, written-end}
 use Rattle.rounds.proofs.SettingLaws.{startAt, start-defined, start-open}
 use Rattle.rounds.proofs.setting.start_values.Statement.{statement}
 use Rattle.rounds.proofs.setting.start_values.Tie as tie

@@ -7,34 +7,36 @@ use native.Mathlib.Numerals.{add-one}
 use native.Mathlib.Omega.{arith}
 use lib.ListN.{length}
 use borrow.Author.Needs.{needs}
-use Rattle.rounds.specs.Rounds.{AtStage, RoundDone}
-use Rattle.rounds.proofs.RoundStep.{at-roomy, at-bound, at-small, stages-start, stages-turn, stages-end}
+use Rattle.wellfounded.specs.Definitions.{Definition}
+use Rattle.rounds.specs.internal.Rounds.{AtStage, RoundDone, Lends}
+use Rattle.rounds.proofs.RoundStep.{at-fits, at-bound, at-small, stages-start, stages-turn, stages-end}
 use Rattle.rounds.proofs.stages.evaluate_stages.Statement.{statement}
 use Rattle.rounds.proofs.stages.evaluate_stages.Tie as tie
 
 abbrev Inv-loop : tie.InvT-loop
 Inv-loop rules literals defined setting values₀ levels₀ work₀ negated founded₀ rounds₀ values levels work founded rounds =
     (length values ≡ length values₀) × (length levels ≡ length levels₀) × (length work ≡ length work₀)
-    × AtStage rules literals setting rounds defined negated founded values levels work
+    × ((d : Definition) → Lends d rules literals defined setting → AtStage d rules literals setting rounds defined negated founded values levels work)
 
 abbrev μ-loop : tie.MeasureT-loop
 μ-loop rules literals defined setting values₀ levels₀ work₀ negated founded₀ rounds₀ values levels work founded rounds = length setting - rounds
 
--- What the round has done.
+-- What the round has done, for every definition that is lent so.
 done :
     (c : tie.After-round Inv-loop μ-loop) →
     let loop = c .before .before .before .before .before .before in
     let negated = loop .before .before .before .before .before .before .mark-negated .last .1 .0 in
     let a = loop .before .before .before .before .before .before .before .before .before .before .before .before .before .before .before .before .before .before .before .before .before .before .before .before .before .before .before .args in
     let last = c .round .last .1 .1 .1 .1 .1 in
-    RoundDone (a .rules .now) (a .literals .now) (a .setting .now) (loop .loop .rounds) (a .defined .now) negated (last .0) (last .1 .0) (last .1 .1 .0)
+    (d : Definition) → Lends d (a .rules .now) (a .literals .now) (a .defined .now) (a .setting .now) →
+    RoundDone d (a .rules .now) (a .literals .now) (a .setting .now) (loop .loop .rounds) (a .defined .now) negated (last .0) (last .1 .0) (last .1 .1 .0)
     (last .1 .1 .1 .0) (c .round .result)
-done c = c .round .ensures _ _ (c .before .before .before .before .before .before .loop .inv .3) (sym (add-one _))
+done c d lends = c .round .ensures d _ _ (c .before .before .before .before .before .before .loop .inv .3 d lends) (sym (add-one _))
 
 start-values-requires : tie.Need-start-values-requires Inv-loop μ-loop
 start-values-requires c κs =
     let pre = c .before .before .before .before .before .before .before .before .pre in
-    (omega (arith, pre .few, pre .definedRoom), pre .valuesLong)
+    (omega (arith, pre .1 .lends .few, pre .1 .lends .long, pre .1 .lends .room), pre .1 .valuesLong)
 
 clear-requires : tie.Need-clear-requires Inv-loop μ-loop
 clear-requires c κs = search needs
@@ -48,8 +50,8 @@ slice-aggregate-mark-negated c = search needs
 mark-negated-requires : tie.Need-mark-negated-requires Inv-loop μ-loop
 mark-negated-requires c κs = λ place l.
     let pre = c .before .before .before .before .before .before .before .before .before .before .before .before .before .before .before .before .before .before .before .before .pre in
-    let known = pre .rows .known place l in
-    omega (arith, pre .few)
+    let known = pre .1 .lends .rows .known place l in
+    omega (arith, pre .1 .lends .few)
 
 slice-aggregate-mark-founded : tie.Need-slice-aggregate-mark-founded Inv-loop μ-loop
 slice-aggregate-mark-founded c = search needs
@@ -58,8 +60,9 @@ mark-founded-requires : tie.Need-mark-founded-requires Inv-loop μ-loop
 mark-founded-requires c κs =
     let started = c .before .before .before .before .before .before .before .before .before .before .before .before .before .before .before in
     let pre = started .before .before .before .before .before .before .before .before .before .pre in
-    let long = started .start-values .kept .1 .1 .0 ∙ pre .valuesLong in
-    (record { rows = rw long (pre .rows); room = rw long (pre .few) }, sym (pre .definedRoom))
+    let lends = pre .1 .lends in
+    let long = started .start-values .kept .1 .1 .0 ∙ pre .1 .valuesLong ∙ lends .long in
+    (record { rows = rw long (lends .rows); room = rw long (lends .few) }, sym (lends .room))
 
 loop-holds : tie.Need-loop-holds Inv-loop μ-loop
 loop-holds c =
@@ -67,35 +70,48 @@ loop-holds c =
     let negating = marked .before .before .before .before in
     let cleared = negating .before .before .before .before in
     let levelled = cleared .before .before .before .before in
-    let started = levelled .before .before .before .before in (
+    let started = levelled .before .before .before .before in
+    let pre = started .before .before .before .before .before .before .before .before .before .pre in (
       refl,
       refl,
       refl,
-      stages-start (started .before .before .before .before .before .before .before .before .before .pre) (started .start-values .ensures) (levelled .clear .ensures) (cleared .clear2 .ensures)
-          (negating .mark-negated .ensures) (marked .mark-founded .kept .1 .1 .1 .1 .0) (marked .mark-founded .ensures),
+      λ d lends.
+          stages-start (pre .1) lends (started .start-values .ensures) (levelled .clear .ensures) (cleared .clear2 .ensures) (negating .mark-negated .ensures)
+          (marked .mark-founded .kept .1 .1 .1 .1 .0) (marked .mark-founded .ensures),
     )
 
 add-round : tie.Need-add-round Inv-loop μ-loop
-add-round c = omega (arith, at-small (c .loop .inv .3))
+add-round c =
+    let pre = c .before .before .before .before .before .before .before .before .before .before .before .before .before .before .before .before .before .before .before .before .before .before .before .before .before .before .before .pre in
+    omega (arith, at-small (c .loop .inv .3 (pre .0) (pre .1 .lends)))
 
 cast-round : tie.Need-cast-round Inv-loop μ-loop
-cast-round c = omega (arith, at-small (c .loop .inv .3))
+cast-round c =
+    let pre = c .before .before .before .before .before .before .before .before .before .before .before .before .before .before .before .before .before .before .before .before .before .before .before .before .before .before .before .pre in
+    omega (arith, at-small (c .loop .inv .3 (pre .0) (pre .1 .lends)))
 
 slice-aggregate-round : tie.Need-slice-aggregate-round Inv-loop μ-loop
 slice-aggregate-round c = search needs
 
 slice-aggregate-round-2 : tie.Need-slice-aggregate-round-2 Inv-loop μ-loop
-slice-aggregate-round-2 c = search needs
+slice-aggregate-round-2 c =
+    let pre = c .before .before .before .before .before .before .before .before .before .before .before .before .before .before .before .before .before .before .before .before .before .before .before .before .before .before .before .before .before .pre in
+    search (needs, c .before .before .loop .inv .3 (pre .0) (pre .1 .lends))
 
 round-requires : tie.Need-round-requires Inv-loop μ-loop
-round-requires c κs = at-roomy (c .before .before .before .before .before .loop .inv .3)
+round-requires c κs =
+    let pre = c .before .before .before .before .before .before .before .before .before .before .before .before .before .before .before .before .before .before .before .before .before .before .before .before .before .before .before .before .before .before .before .before .pre in
+    at-fits (c .before .before .before .before .before .loop .inv .3 (pre .0) (pre .1 .lends))
 
 add-rounds : tie.Need-add-rounds Inv-loop μ-loop
-add-rounds c = omega (arith, at-small (c .before .before .before .before .before .before .before .before .before .before .before .before .before .before .loop .inv .3))
+add-rounds c =
+    let pre = c .before .before .before .before .before .before .before .before .before .before .before .before .before .before .before .before .before .before .before .before .before .before .before .before .before .before .before .before .before .before .before .before .before .before .before .before .before .before .before .before .before .pre in
+    omega (arith, at-small (c .before .before .before .before .before .before .before .before .before .before .before .before .before .before .loop .inv .3 (pre .0) (pre .1 .lends)))
 
 loop-less : tie.Need-loop-less Inv-loop μ-loop
 loop-less c =
-    let next = at-bound (stages-turn (done (c .before .before .before .before .before .before .before .before)) (c .if1 .taken)) in
+    let pre = c .before .before .before .before .before .before .before .before .before .before .before .before .before .before .before .before .before .before .before .before .before .before .before .before .before .before .before .before .before .before .before .before .before .before .before .before .before .before .before .before .before .pre in
+    let next = at-bound (stages-turn (done (c .before .before .before .before .before .before .before .before) (pre .0) (pre .1 .lends)) (c .if1 .taken)) in
     omega arith
 
 loop-again : tie.Need-loop-again Inv-loop μ-loop
@@ -103,7 +119,7 @@ loop-again c =
     let round = c .before .before .before .before .before .before .before .before in
     let inv = round .before .before .before .before .before .before .loop .inv in
     let kept = round .round .kept .1 .1 .1 .1 .1 .1 in
-    (kept .0 ∙ inv .0, kept .1 .0 ∙ inv .1, kept .1 .1 .0 ∙ inv .2, stages-turn (done round) (c .if1 .taken))
+    (kept .0 ∙ inv .0, kept .1 .0 ∙ inv .1, kept .1 .1 .0 ∙ inv .2, λ d lends. stages-turn (done round d lends) (c .if1 .taken))
 
 same-length : tie.Need-same-length Inv-loop μ-loop
 same-length c =
@@ -124,7 +140,7 @@ same-length-3 c =
     round .round .kept .1 .1 .1 .1 .1 .1 .1 .1 .0 ∙ loop .loop .inv .2 ∙ loop .before .before .before .before .before .before .before .before .before .before .clear2 .kept .0
 
 returns : tie.Need-returns Inv-loop μ-loop
-returns c = stages-end (done (c .before .before .before .before .before .before .before .before)) (c .if1 .left)
+returns c = λ d ready. stages-end (done (c .before .before .before .before .before .before .before .before) d (ready .lends)) (c .if1 .left)
 
 pub evaluate-stages-spec : {M : Type 1} → statement M
 evaluate-stages-spec =

@@ -36,7 +36,7 @@ same-length-4 : tie.Need-same-length-4
 same-length-4 c = search needs
 
 returns : tie.Need-returns
-returns c = λ setting k at so.
+returns c = λ d setting k at so.
     let end = c .before .before .before in
     round-last at (fired (decided end) .mark-firing .ensures) (decided end .decide .ensures) (end .clear .ensures) so (c .if1 .taken)
 
@@ -60,7 +60,7 @@ same-length-8 : tie.Need-same-length-8
 same-length-8 c = search needs
 
 returns-2 : tie.Need-returns-2
-returns-2 c = λ setting k at so.
+returns-2 c = λ d setting k at so.
     let end = c .before .before .before .before .before .before .before .before .before in
     round-renewed at (fired (decided end) .mark-firing .ensures) (decided end .decide .ensures) (end .clear .ensures) so (c .before .before .before .before .before .before .if1 .left)
     (c .before .before .mark-founded .kept .1 .1 .1 .1 .0) (c .before .before .mark-founded .ensures)
@@ -78,7 +78,7 @@ same-length-12 : tie.Need-same-length-12
 same-length-12 c = search needs
 
 returns-3 : tie.Need-returns-3
-returns-3 c = λ setting k at so.
+returns-3 c = λ d setting k at so.
     let end = c .before .before .before .before in
     round-next at (fired (decided end) .mark-firing .ensures) (decided end .decide .ensures) (end .clear .ensures) so (c .before .if1 .left) (c .if2 .left)
 

@@ -5,7 +5,7 @@ use mir.Syntax.{w32}
 use mir.Facts.{toZ-ofZ}
 use borrow.Author.Needs.{needs}
 use Rattle.satisfaction.specs.Satisfied.{loadSum}
-use Rattle.satisfaction.proofs.LoadLaws.{part-scannable, part-terms}
+use Rattle.satisfaction.proofs.LoadLaws.{terms-part, part-terms}
 use Rattle.satisfaction.proofs.loads.load_sum.Statement.{statement}
 use Rattle.satisfaction.proofs.loads.load_sum.Tie as tie
 
@@ -34,7 +34,7 @@ part-terms-sum-end-2 : tie.Need-part-terms-sum-end-2
 part-terms-sum-end-2 c = search needs
 
 terms-sum-requires : tie.Need-terms-sum-requires
-terms-sum-requires c κs = part-scannable (c .before .before .before .before .pre)
+terms-sum-requires c κs = terms-part (c .before .before .before .before .pre)
 
 returns : tie.Need-returns
 returns c =

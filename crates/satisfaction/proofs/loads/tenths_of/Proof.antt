@@ -9,7 +9,7 @@ use mir.Facts.{toZ-ofZ, toZ-pos}
 use borrow.Author.Needs.{needs}
 use Rattle.satisfaction.specs.Tenths.{roundTenth}
 use Rattle.tables.proofs.Signs.{magnitude-fits}
-use Rattle.satisfaction.proofs.LoadLaws.{negative-tenths, other-tenths, minutes-small, round-small, tenths-small}
+use Rattle.satisfaction.proofs.LoadLaws.{negative-tenths, other-tenths, minutes-most, round-small, tenths-small}
 use Rattle.satisfaction.proofs.loads.tenths_of.Statement.{statement}
 use Rattle.satisfaction.proofs.loads.tenths_of.Tie as tie
 
@@ -20,13 +20,13 @@ magnitude-is : (c : tie.After-magnitude) → c .magnitude .result ≡ natAbs (c 
 magnitude-is c = c .magnitude .ensures ∙ ap natAbs (toZ-ofZ (c .before .fits .minutes))
 
 round-tenth-requires : tie.Need-round-tenth-requires
-round-tenth-requires c κs = omega (arith, magnitude-is c, minutes-small (c .before .fits .minutes))
+round-tenth-requires c κs = omega (arith, magnitude-is c, minutes-most (c .before .fits .minutes))
 
 rounded-is : (c : tie.After-round-tenth) → c .round-tenth .result ≡ roundTenth (natAbs (c .before .before .args .minutes))
 rounded-is c = c .round-tenth .ensures ∙ ap roundTenth (magnitude-is (c .before))
 
 cast-rounded : tie.Need-cast-rounded
-cast-rounded c = omega (arith, rounded-is c, round-small _ (minutes-small (c .before .before .fits .minutes)))
+cast-rounded c = omega (arith, rounded-is c, round-small _ (minutes-most (c .before .before .fits .minutes)))
 
 signed-is : (c : tie.After-round-tenth) → toZ w32 (c .round-tenth .result) ≡ pos (roundTenth (natAbs (c .before .before .args .minutes)))
 signed-is c = toZ-pos w32 (cast-rounded c .sfits) ∙ ap pos (rounded-is c)

@@ -7,7 +7,8 @@ use mir.Syntax.{w16, w32}
 use mir.Val.{SFits, toZ, ofZ, boolByte}
 use mir.Facts.{toZ-ofZ}
 use borrow.Author.Needs.{needs}
-use Rattle.satisfaction.specs.Satisfied.{Counted, termCount}
+use Rattle.satisfaction.specs.Satisfied.{termCount}
+use Rattle.satisfaction.specs.internal.Terms.{SmallCount}
 use Rattle.tables.specs.Loads.{termAt}
 use Rattle.tables.proofs.Signs.{magnitude-fits}
 use Rattle.satisfaction.proofs.LoadLaws.{counted-back, term-times}
@@ -41,7 +42,7 @@ fits c = record { sfits = c .tenths-of-arg .given }
 product :
     (c : tie.After-tenths-of) →
     let a = c .before .before .before .before .before .before .args in
-    Counted (termCount (a .values .now) (termAt (a .load-literals .now) (a .minutes .now) (a .place)))
+    SmallCount (termCount (a .values .now) (termAt (a .load-literals .now) (a .minutes .now) (a .place)))
     (toZ w32 (ofZ w32 (c .tenths-of .result)) *ℤ toZ w32 (boolByte (c .before .before .literal-true .result)))
 product c =
     term-times _ _ _ _ _ (c .before .before .literal-true .ensures) (counted-back (rw (toZ-ofZ (fits (c .before))) at (c .tenths-of .ensures)))

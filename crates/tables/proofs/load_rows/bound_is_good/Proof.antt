@@ -4,7 +4,7 @@ use lib.IntN.{pos}
 use lib.ListN.{getD}
 use mir.Syntax.{w32}
 use borrow.Author.Needs.{needs}
-use Rattle.tables.proofs.RowFaults.{within}
+use Rattle.tables.proofs.RowFaults.{magnitude-within}
 use Rattle.tables.proofs.load_rows.bound_is_good.Statement.{statement}
 use Rattle.tables.proofs.load_rows.bound_is_good.Tie as tie
 
@@ -18,7 +18,7 @@ sub-result : tie.Need-sub-result
 sub-result c = search needs
 
 returns : tie.Need-returns
-returns c = let a = c .before .args in within w32 999999 (getD (a .loads .now) (a .place) (pos 0)) (c .bound .given)
+returns c = let a = c .before .args in magnitude-within w32 999999 (getD (a .loads .now) (a .place) (pos 0)) (c .bound .given)
 
 pub bound-is-good-spec : {M : Type 1} → statement M
 bound-is-good-spec = tie.close (tie.spec mul-bound shared-slice-copy-out-bound sub-result returns)

@@ -7,8 +7,8 @@ use native.Mathlib.Omega.{arith}
 use borrow.Author.Tests.{eq-eqb, ne-eqb}
 use Rattle.wellfounded.specs.Lists.{count}
 use Rattle.wellfounded.proofs.Lists.{count-le}
-use Rattle.tables.specs.Marks.{isMarked}
-use Rattle.tables.proofs.MarkLaws.{counted-pass, counted-fail}
+use Rattle.tables.specs.internal.Marks.{isMarked}
+use Rattle.wellfounded.proofs.Lists.{counted-pass, counted-fail}
 use Rattle.tables.proofs.marks.count_marked.Statement.{statement}
 use Rattle.tables.proofs.marks.count_marked.Tie as tie
 

@@ -5,7 +5,7 @@ use lib.ListN.{getD}
 use mir.Syntax.{w16}
 use borrow.Author.Needs.{needs}
 use Rattle.tables.specs.Sound.{badTerm}
-use Rattle.tables.proofs.RowFaults.{beyond}
+use Rattle.tables.proofs.RowFaults.{magnitude-beyond}
 use Rattle.tables.proofs.row_faults.term_is_bad.Statement.{statement}
 use Rattle.tables.proofs.row_faults.term_is_bad.Tie as tie
 
@@ -25,7 +25,7 @@ returns : tie.Need-returns
 unfolding badTerm
 returns c =
     let a = c .before .before .before .args in
-    rw (c .literal-is-bad .ensures, beyond w16 1439 (getD (a .minutes .now) (a .place) (pos 0)) (c .before .worked .given))
+    rw (c .literal-is-bad .ensures, magnitude-beyond w16 1439 (getD (a .minutes .now) (a .place) (pos 0)) (c .before .worked .given))
 
 pub term-is-bad-spec : {M : Type 1} → statement M
 term-is-bad-spec =

@@ -8,7 +8,7 @@ use borrow.Author.Tests.{lt-ltb, le-ltb}
 use Rattle.tables.specs.declared.Found.the-variants.{Nothing}
 use Rattle.tables.specs.Faults.{lowest}
 use Rattle.tables.proofs.Faults.{lowest-start, lowest-turn, lowest-stop, lowest-end}
-use Rattle.tables.specs.Marks.{notHeld}
+use Rattle.tables.specs.Values.{notHeld}
 use Rattle.tables.proofs.MarkLaws.{not-held-at}
 use Rattle.tables.proofs.values.not_held_atom.Statement.{statement}
 use Rattle.tables.proofs.values.not_held_atom.Tie as tie

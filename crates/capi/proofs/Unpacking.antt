@@ -1,0 +1,49 @@
+-- Number and position can be told from every packed verdict of a call, and none is taken for "no answer".
+-- Assumes nothing.
+use Prim.Native.Nat.{ℕ, _/_, _%_, _≤_}
+use mathlib.Core.Path.{_≡_}
+use mathlib.Core.List.{List}
+use native.Mathlib.Omega.{arith}
+use Rattle.tables.specs.declared.Verdict.{Verdict}
+use Rattle.tables.specs.Limits.{maxPosition}
+use Rattle.tables.specs.Faults.{positionOf}
+use Rattle.tables.specs.Sound.{Tables}
+use Rattle.tables.proofs.Numbers.{verdict-number}
+use Rattle.checker.specs.Check.{checkOf}
+use Rattle.checker.proofs.Positions.{check-position}
+use Rattle.evaluator.specs.Evaluate.{evaluateOf}
+use Rattle.evaluator.proofs.Positions.{evaluate-position}
+use Rattle.judging.specs.declared.reached.Space.{Space}
+use Rattle.judging.specs.Judging.{judgeText}
+use Rattle.booktext.specs.Answers.{answerOf}
+use Rattle.booktext.proofs.Positions.{text-position}
+use Rattle.outcome.specs.Outcomes.{outcomeOf}
+use Rattle.outcome.proofs.Bounds.{outcome-position}
+use Rattle.capi.specs.Packing.{packed, packedRounds, Unpacks}
+
+-- A verdict whose position has 16 bits unpacks,
+pub unpacks : (verdict : Verdict) → positionOf verdict ≤ maxPosition → Unpacks verdict
+unfolding packed
+unpacks verdict l =
+    let n = verdict-number verdict in
+    record { number = omega arith; position = omega arith; answers = λ e. omega arith }
+
+-- and so does the verdict of every call: of the check, the maker, a text and the reader.
+pub check-unpacks : (t : Tables) (values levels : List ℕ) → Unpacks (checkOf t values levels)
+check-unpacks t values levels = unpacks _ (check-position t values levels)
+
+pub evaluate-unpacks : (t : Tables) (setting values levels work : List ℕ) → Unpacks (evaluateOf t setting values levels work .verdict)
+evaluate-unpacks t setting values levels work = unpacks _ (evaluate-position t setting values levels work)
+
+pub text-unpacks : (text : List ℕ) → Unpacks (outcomeOf text .verdict)
+text-unpacks text = unpacks _ (outcome-position text)
+
+pub read-unpacks : (space : Space) (text : List ℕ) → Unpacks (answerOf (judgeText space text) .verdict)
+read-unpacks space text = unpacks _ (text-position space text)
+
+-- The rounds stand above the packed verdict.
+pub rounds-unpack :
+    (verdict : Verdict) (rounds : ℕ) → positionOf verdict ≤ maxPosition →
+    (packedRounds verdict rounds / 4294967296 ≡ rounds) × (packedRounds verdict rounds % 4294967296 ≡ packed verdict)
+unfolding packedRounds packed
+rounds-unpack verdict rounds l = let n = verdict-number verdict in (omega arith, omega arith)

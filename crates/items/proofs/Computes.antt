@@ -1,0 +1,12 @@
+-- The definitions of this crate, and of those below it, that a sample computes through: `unfolding computes` opens them all.
+-- Assumes nothing.
+use Rattle.format.proofs.Computes.{computes as format-computes}
+use Rattle.items.specs.Items.{codeOf, literalCode}
+
+unfoldable opens-items : Unit {0}
+unfolding codeOf literalCode
+opens-items = tt
+
+unfoldable pub computes : Unit {0}
+unfolding format-computes opens-items
+computes = tt

@@ -1,0 +1,109 @@
+-- A line judged: ended by its byte and judged by its shape, it comes to what its form comes to.
+-- Assumes nothing.
+use Prim.Native.Nat.{ℕ, _+_, _-_, _≤_}
+use mathlib.Core.Path.{_≡_, refl, sym, ap, _∙_}
+use mathlib.Core.Bool.{Bool, true, false, cond, false≢true}
+use mathlib.Core.List.{List, [], _∷_, _++_}
+use native.Mathlib.Omega.{arith}
+use lib.ListN.{length, drop, length-append, length-drop}
+use lib.Seq.{drop-drop, drop-append-seam}
+use Rattle.wellfounded.proofs.Tests.{first}
+use Rattle.tables.specs.declared.Fault.{Fault}
+use Rattle.tables.specs.declared.Fault.the-variants.{Malformed}
+use Rattle.format.specs.Forms.{Form, lineEnd, render}
+use Rattle.format.specs.Parse.{Reading, got, refused, andThen, readForm, readLine}
+use Rattle.format.specs.Words.{wordAt}
+use Rattle.format.proofs.Readings.{holds-use}
+use Rattle.format.proofs.Lines.{form-written}
+use Rattle.items.proofs.ItemLaws.{byte-got, byte-none}
+use Rattle.judging.specs.declared.reached.Reached.{Reached}
+use Rattle.judging.specs.declared.reached.Space.{Space}
+use Rattle.judging.specs.declared.reached.Shape.{Shape}
+use Rattle.judging.specs.declared.reached.Move.{Move}
+use Rattle.judging.specs.declared.reached.Move.the-variants.{On, Stop}
+use Rattle.judging.specs.Judging.{maxBytes, numbersWithin, withinLimits, Step, on, stop, judgeForm}
+use Rattle.judging.specs.internal.Shapes.{shapeOf, judgeShape, asMove}
+use Rattle.judging.proofs.ShapeLaws.{shape-judged, parts-few}
+use Rattle.judging.proofs.StateLaws.{judge-on}
+use Rattle.forms.specs.declared.Line.{Line}
+use Rattle.forms.specs.declared.Line.the-variants.{Formed}
+use Rattle.forms.specs.Contents.{Contents}
+use Rattle.forms.specs.internal.Readers.{formed, WellPlaced, Forms}
+use Rattle.forms.proofs.DispatchLaws.{Stored}
+use Rattle.lines.specs.internal.Walks.{Ready, Judgeable, lineMove, moveOf, goesOn, Moves}
+
+-- What is left after some bytes at an offset begins at the next one.
+pub rest-at :
+    (text bytes rest : List ℕ) {at : ℕ} → at ≤ length text → drop at text ≡ bytes ++ rest →
+    (length text - length rest ≡ at + length bytes) × (drop (length text - length rest) text ≡ rest)
+rest-at text bytes rest {at} l e =
+    let sum : length text - at ≡ length bytes + length rest = sym (length-drop at text) ∙ ap length e ∙ length-append bytes rest in
+    let next : length text - length rest ≡ at + length bytes = omega arith in
+    (next, rw (next, ← drop-drop (length bytes) at text, e) (drop-append-seam bytes rest))
+
+-- A form that goes on is fine.
+goes-on : (n : ℕ) (m : Step) → goesOn (asMove n m) ≡ true → (t : Reached) × (m ≡ on t)
+unfolding goesOn asMove
+goes-on n (on t) e = (t, refl)
+goes-on n (stop fault) e = absurd (false≢true e)
+
+judged-fine : (space : Space) (s : Reached) (f : Form) (n : ℕ) → goesOn (asMove n (judgeForm space s f)) ≡ true → WellPlaced s f
+unfolding withinLimits
+judged-fine space s f n g =
+    let t = goes-on n (judgeForm space s f) g in
+    let k = judge-on space s f (t .0) (t .1) in
+    record { within = first (numbersWithin s f) _ (k .0); ordered = k .1 }
+
+-- A form was read at an offset.
+module _ {s : Reached} {text : List ℕ} {at : ℕ} {line : Line} {written : Form → Type 0} (ready : Ready text at s)
+    (read : Forms s text (readForm (drop at text)) line written) where
+  written-there : {f : Form} {rest : List ℕ} → readForm (drop at text) ≡ got f rest → drop at text ≡ render f ++ rest
+  written-there e = holds-use (λ g end. drop at text ≡ render g ++ end) (form-written (drop at text)) e
+
+  -- So that it may be judged.
+  pub judgeable : Judgeable s line
+  unfolding formed shapeOf
+  judgeable = record { counts = ready .counts; few = λ shape next e. step shape next (readForm (drop at text)) refl (sym (read .answered) ∙ e) }
+    where
+      step :
+          (shape : Shape) (next : ℕ) (r : Reading Form) → readForm (drop at text) ≡ r → formed s text r ≡ Formed shape next →
+          shape .parts ≤ maxBytes
+      step shape next (got f rest) d t =
+          let same : shape ≡ shapeOf s f = cc in
+          let whole : length text - at ≡ length (render f) + length rest =
+          sym (length-drop at text) ∙ (ap length (written-there d) ∙ length-append (render f) rest) in
+          rw same (omega (arith, parts-few f, ready .inside .short))
+      step shape next refused d t = let z : _≡_ {A = ℕ} 0 1 = cc in absurd (omega arith)
+
+-- The line that was read comes to what its form comes to.
+module _ (space : Space) {s : Reached} {text : List ℕ} {at : ℕ} (ready : Ready text at s) {before afterwards : Contents} where
+  ended :
+      (f : Form) (next : ℕ) (b : Bool) → readForm (drop at text) ≡ got f (drop next text) → wordAt text next (lineEnd ∷ []) ≡ b →
+      (WellPlaced s f → Stored s before afterwards f) →
+      Moves space s text (readLine (drop at text)) (cond b (asMove (next + 1) (judgeShape space s (shapeOf s f))) (Stop Malformed)) before afterwards
+  unfolding readLine andThen moveOf
+  ended f next true d w laid =
+      let g = byte-got text next lineEnd w in
+      let end : length text - length (drop (next + 1) text) ≡ next + 1 = rw length-drop (omega (arith, g .1)) in
+      rw (d, g .0, shape-judged space s f (ready .atoms)) record { answered = rw end; laid = λ on. laid (judged-fine space s f (next + 1) on) }
+  ended f next false d w laid = rw (d, byte-none text next lineEnd w) record { answered = refl; laid = tt }
+
+  unread : readForm (drop at text) ≡ refused → Moves space s text (readLine (drop at text)) (Stop Malformed) before afterwards
+  unfolding readLine andThen moveOf
+  unread d = rw d record { answered = refl; laid = tt }
+
+  pub line-moves :
+      {line : Line} {answer : Move} → Forms s text (readForm (drop at text)) line (Stored s before afterwards) →
+      answer ≡ lineMove space s text line →
+      Moves space s text (readLine (drop at text)) answer before afterwards
+  unfolding formed lineMove
+  line-moves {line} {answer} read a = step (readForm (drop at text)) refl read
+    where
+      step :
+          (r : Reading Form) → readForm (drop at text) ≡ r → Forms s text r line (Stored s before afterwards) →
+          Moves space s text (readLine (drop at text)) answer before afterwards
+      step (got f rest) d k =
+          let next = length text - length rest in
+          let there = rest-at text (render f) rest (ready .inside .reached) (written-there ready read d) in
+          rw (a, k .answered) (ended f next (wordAt text next (lineEnd ∷ [])) (rw (there .1) d) refl (k .laid))
+      step refused d k = rw (a, k .answered) (unread d)

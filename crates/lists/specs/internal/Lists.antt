@@ -1,0 +1,38 @@
+-- What the functions promise that store entries and read lists of parts.
+use Prim.Native.Nat.{ℕ, _-_, _≤_}
+use mathlib.Core.Path.{_≡_}
+use mathlib.Core.Bool.{Bool, true, cond}
+use mathlib.Core.List.{List, [], _∷_}
+use lib.ListN.{length, set}
+use Rattle.wellfounded.specs.Lists.{all}
+use Rattle.format.specs.Parse.{Reading, got, refused, Holds}
+use Rattle.judging.specs.Judging.{maxBytes}
+use Rattle.lists.specs.declared.Parts.{Parts}
+use Rattle.lists.specs.declared.Parts.the-variants.{Listed, NoList}
+
+-- An entry is stored where it has a place and fits the table's numbers; nothing else is written.
+module _ {A : Type 0} where
+  unfoldable pub stored : Bool → List A → ℕ → A → List A
+  stored small table place entry = cond small (set table place entry) table
+
+-- Parts that were listed: how many, whether all are within their limits, whether they rise, and the offset after them.
+module _ {A : Type 0} where
+  unfoldable pub listed : List ℕ → (A → Bool) → (List A → Bool) → Reading (List A) → Parts
+  listed text within rising (got xs rest) = Listed (length xs) (all within xs) (rising xs) (length text - length rest)
+  listed text within rising refused = NoList
+
+-- A place in a text that is short enough to be read.
+pub record Inside (text : List ℕ) (at : ℕ) : Type 0 where
+  pub reached : at ≤ length text
+  pub short : length text ≤ maxBytes
+
+-- What a function promises that reads a list of parts: its answer, and what it has written where all parts are within their limits.
+pub record Lists {A : Type 0} (text : List ℕ) (within : A → Bool) (rising : List A → Bool) (reading : Reading (List A)) (answer : Parts)
+    (written : List A → Type 0) : Type 0 where
+  pub answered : answer ≡ listed text within rising reading
+  pub laid : Holds (λ xs rest. all within xs ≡ true → written xs) reading
+
+-- The atoms that an open form names, marked one by one.
+unfoldable pub marked : List ℕ → List ℕ → List ℕ
+marked [] values = values
+marked (atom ∷ atoms) values = marked atoms (set values atom 1)

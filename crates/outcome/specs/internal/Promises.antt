@@ -1,0 +1,46 @@
+-- What the functions promise that give an outcome, and what they ask.
+use Prim.Native.Nat.{ℕ, _≤_}
+use mathlib.Core.Path.{_≡_}
+use mathlib.Core.List.{List}
+use lib.ListN.{length, take}
+use Rattle.tables.specs.declared.Verdict.{Verdict}
+use Rattle.tables.specs.Limits.{maxAtoms}
+use Rattle.judging.specs.LentTables.{Table, Rules, Literals, Clauses, Loads, LoadLiterals, Minutes, Values, Levels}
+use Rattle.forms.specs.Contents.{Contents, over}
+use Rattle.booktext.specs.declared.StateForm.{StateForm}
+use Rattle.booktext.specs.declared.Book.{Book}
+use Rattle.outcome.specs.Outcomes.{TextOutcome}
+
+-- How many entries of each table a reader's answer says are used, and those parts of the tables.
+unfoldable pub usedIn : Book → Table → ℕ
+usedIn book Rules = book .rules
+usedIn book Literals = book .literals
+usedIn book Clauses = book .clauses
+usedIn book Loads = book .loads
+usedIn book LoadLiterals = book .terms
+usedIn book Minutes = book .terms
+usedIn book Values = book .atoms
+usedIn book Levels = book .atoms
+
+unfoldable pub usedParts : Book → Contents → Contents
+usedParts book held table = take (usedIn book table) (held table)
+
+-- A reader's answer fits the tables that it speaks of.
+pub record FitsBook (book : Book) (held : Contents) : Type 0 where
+  pub few : book .atoms ≤ maxAtoms
+  pub each : (table : Table) → usedIn book table ≤ length (held table)
+
+-- The slices hold a value and a level for each atom of the largest book.
+pub record HoldEveryAtom (values levels : List ℕ) : Type 0 where
+  pub valuesLong : maxAtoms ≤ length values
+  pub levelsLong : maxAtoms ≤ length levels
+
+-- A function that gives an outcome answers it, with the values and levels that were made at the front of the lent slices.
+pub record GivesOutcome (o : TextOutcome) (values levels : List ℕ) (verdict : Verdict) (state : StateForm) (atoms rounds : ℕ)
+    (valuesAfter levelsAfter : List ℕ) : Type 0 where
+  pub verdictIs : verdict ≡ o .verdict
+  pub stateIs : state ≡ o .state
+  pub atomsIs : atoms ≡ length (o .values)
+  pub roundsIs : rounds ≡ o .rounds
+  pub valuesIs : valuesAfter ≡ over (o .values) values
+  pub levelsIs : levelsAfter ≡ over (o .levels) levels
