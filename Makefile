@@ -1,46 +1,81 @@
-# make run [BOOK=file]   the report of a book
-# make lib               build/libbattenplum.a beside its header
-# make install [PREFIX=] program, library, header, pkg-config file and manual pages
-# make cross [SEED= COUNT=] library and program against solvers in another language
-# make bench [QUICK=1]   times of the C calls against a fast version in another language
-# make test              the whole gate
+# make run [BOOK=file]         the report of a book; the first run proves all that the program is made of
+# make lib                     the library, static and shared, and its header, in build/
+# make all                     the same and the programs battenplum and battenplum-check
+# make install [PREFIX=dir]    programs, library, header, pkg-config file, manual pages and documents; DESTDIR=dir stages them
+# make uninstall [PREFIX=dir]  removes what was installed
+# make test                    proves everything from nothing and runs all tests
+# make cross [SEED= COUNT=]    library and program against solvers in Rust
+# make bench [QUICK=1]         times of the C calls against a fast version in Rust
+# make clean                   removes what was built; what was proved stays, in target/
+# make help                    these lines
 BOOK ?= examples/contact.book
 PREFIX ?= /usr/local
+CFLAGS ?= -O2
 CARGO = cargo --quiet --offline
 CROSS = --release --manifest-path cross/Cargo.toml --target-dir build/cross
+SOURCES := $(shell find crates -name '*.rt' -o -name '*.antt') crates.txt
+VERSION := $(shell sed -n 's/^.define BATTENPLUM_VERSION "\(.*\)"/\1/p' include/battenplum.h)
+SHARED = libbattenplum.so.$(VERSION)
 
-.PHONY: run lib install cross bench test clean
+# Through the environment, so that names with spaces arrive whole.
+export BOOK PREFIX DESTDIR CC
+
+.PHONY: run lib all install uninstall cross bench test clean help cargo
+# Two runs of `rt` at a time would spoil each other's files.
+.NOTPARALLEL:
 
 run: build/battenplum
-	@build/battenplum < $(BOOK)
+	@build/battenplum < "$$BOOK"
 
-lib: build/libbattenplum.a
+lib: build/libbattenplum.a build/libbattenplum.so build/battenplum.h
+
+# The library comes first, as its rule asks for all tools before minutes of proving.
+all: lib build/battenplum build/battenplum-check
 
 # `rt` proves what has changed, and builds only what is proved.
-build/battenplum: $(shell find crates -name '*.rt' -o -name '*.antt') crates.txt
+build/battenplum: $(SOURCES)
+	@tools/need rt
+	@tools/prove cli $@
+
+build/libbattenplum.a: $(SOURCES)
+	@tools/need rt cc
+	@tools/prove capi $@
+
+build/battenplum.h: include/battenplum.h
 	@mkdir -p build
-	@rt check cli > build/cli.log || { tail -20 build/cli.log; exit 1; }
-	@cp target/bin/cli $@
+	@cp include/battenplum.h $@
 
-build/libbattenplum.a: $(shell find crates -name '*.rt' -o -name '*.antt') crates.txt include/battenplum.h
+# What is built is renamed into place, as another make may be using what stands there. The shared library exports the calls that the header
+# declares, each at the start of a line, and is loaded by a name with the version: until 1.0 each version may change the calls.
+build/exports: include/battenplum.h
 	@mkdir -p build
-	@rt staticlib capi > build/capi.log || { tail -20 build/capi.log; exit 1; }
-	@cp target/staticlib/libcapi.a $@
-	@cp include/battenplum.h build/
+	@{ echo '{ global:'; sed -n 's/^[a-z0-9_]* \(battenplum_[a-z_]*\)(.*/\1;/p' include/battenplum.h; echo 'local: *; };'; } > $@.$$$$ && mv $@.$$$$ $@
 
-install: build/battenplum build/libbattenplum.a
-	install -d $(PREFIX)/bin $(PREFIX)/lib/pkgconfig $(PREFIX)/include $(PREFIX)/share/man/man1 $(PREFIX)/share/man/man5
-	install -m 755 build/battenplum $(PREFIX)/bin/
-	install -m 644 build/libbattenplum.a $(PREFIX)/lib/
-	install -m 644 include/battenplum.h $(PREFIX)/include/
-	sed 's|@PREFIX@|$(PREFIX)|' battenplum.pc.in > $(PREFIX)/lib/pkgconfig/battenplum.pc
-	install -m 644 man/battenplum.1 $(PREFIX)/share/man/man1/
-	install -m 644 man/battenplum-book.5 $(PREFIX)/share/man/man5/
+build/$(SHARED): build/libbattenplum.a build/exports
+	@$(CC) -shared $(LDFLAGS) -Wl,-soname,$(SHARED) -Wl,--version-script=build/exports -Wl,-z,relro,-z,now -Wl,--no-undefined \
+	  -Wl,--whole-archive build/libbattenplum.a -Wl,--no-whole-archive -o $@.$$$$ && mv $@.$$$$ $@
 
-cross: build/battenplum build/libbattenplum.a
+build/libbattenplum.so: build/$(SHARED)
+	@ln -sf $(SHARED) $@
+
+build/battenplum-check: $(wildcard frontend/*.c frontend/*.h) include/battenplum.h build/libbattenplum.a
+	@tools/need cc
+	@$(CC) -std=c99 -Wall -Wextra -Wconversion -pedantic -Iinclude $(CPPFLAGS) $(CFLAGS) $(LDFLAGS) \
+	  $(filter %.c %.a,$^) $(LDLIBS) -o $@.$$$$ && mv $@.$$$$ $@
+
+install: all
+	@tools/install
+
+uninstall:
+	@tools/install --remove
+
+cargo:
+	@tools/need cargo
+
+cross: cargo build/battenplum build/libbattenplum.a
 	@$(CARGO) run $(CROSS) --bin differ -- $(if $(SEED),--seed $(SEED)) $(if $(COUNT),--count $(COUNT))
 
-bench: build/libbattenplum.a
+bench: cargo build/libbattenplum.a
 	@$(CARGO) run $(CROSS) --bin bench -- $(if $(QUICK),--quick)
 
 # The last line is that of the prover, and is printed only if everything else has passed too.
@@ -49,3 +84,6 @@ test:
 
 clean:
 	rm -rf build
+
+help:
+	@sed -n 's/^# \(make [a-z]* .*\)/\1/p' Makefile

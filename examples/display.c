@@ -1,50 +1,78 @@
-/* A small display: hands a book's text to the library and prints what its verdict means.
+/* A small display: reads a book from a file, passes its text to the library and prints what the verdict means.
  *
- *     display FILE
+ *     cc -o display display.c $(pkg-config --cflags --libs battenplum)
+ *     ./display FILE
+ *
+ * It prints `accepted`, or `refused NUMBER at POSITION: ` and the meaning, with the line for a fault of the text itself. The exit status
+ * is 0 for an accepted book, 1 for a refused one, and 2 for trouble, with the reason on standard error.
  */
+#include <errno.h>
 #include <stdio.h>
+#include <string.h>
 
-#include "battenplum.h"
+#include <battenplum.h>
 
-static const char *meaning(uint32_t number) {
-    switch (number) {
-    case 0: return "accepted";
-    case 1: return "a line is malformed";
-    case 2: return "a number or a count is outside its limits, or the text is too long";
-    case 3: return "a form is out of order or missing";
-    case 12: return "a rule names an atom that the book does not have";
-    case 15: return "a literal names an atom that the book does not have";
-    case 16: return "a load line names an atom that the book does not have";
-    case 21: return "a value is not 0 or 1, or an open form names a defined atom";
-    case 22: return "a level is out of place";
-    case 23: return "a true fact has no rule that holds it up";
-    case 24: return "a false fact has a rule that nothing blocks";
-    case 25: return "the rules leave a fact undecided";
-    case 26: return "a clause fails";
-    case 27: return "a load line fails";
-    default: return "refused";
-    }
+enum { ACCEPTED = 0, REFUSED = 1, TROUBLE = 2 };
+
+static int trouble(const char *name, int reason) {
+    fprintf(stderr, "display: %s: %s\n", name, strerror(reason));
+    return TROUBLE;
+}
+
+/* The number of the line in which a byte stands. Lines count from 1. */
+static unsigned long line_of(const uint8_t *text, size_t position) {
+    unsigned long line = 1;
+    size_t i;
+
+    for (i = 0; i < position; i++)
+        if (text[i] == '\n')
+            line++;
+    return line;
 }
 
 int main(int argc, char **argv) {
-    /* One byte more than a text may have, so that a longer one is seen to be too long. */
-    static uint8_t text[65536];
+    /* One byte more than a text may have, so that a longer text is refused instead of being cut off. */
+    static uint8_t text[BATTENPLUM_TEXT_MAX + 1];
     FILE *file;
     size_t length;
-    uint32_t verdict;
+    int failed, reason;
+    uint32_t verdict, number, position;
 
-    if (argc != 2 || (file = fopen(argv[1], "rb")) == NULL) {
+    if (argc != 2) {
         fprintf(stderr, "usage: display FILE\n");
-        return 2;
+        return TROUBLE;
     }
+    file = fopen(argv[1], "rb");
+    if (file == NULL)
+        return trouble(argv[1], errno);
+    /* A directory can be opened, and fails here. */
+    errno = 0;
     length = fread(text, 1, sizeof text, file);
+    failed = ferror(file);
+    reason = errno;
     fclose(file);
+    if (failed)
+        return trouble(argv[1], reason);
+
     verdict = battenplum_verdict(text, length);
-    if (verdict == 0) {
+    number = BATTENPLUM_NUMBER(verdict);
+    position = BATTENPLUM_POSITION(verdict);
+    errno = 0;
+    if (number == BATTENPLUM_ACCEPTED) {
         printf("accepted\n");
-        return 0;
+    } else {
+        printf("refused %lu at %lu: %s", (unsigned long)number, (unsigned long)position, battenplum_message(number));
+        /* For 1 to 3 the position is the first byte of a line, unless the text is too long or its last line is missing. */
+        if (number <= BATTENPLUM_OUT_OF_ORDER && length <= BATTENPLUM_TEXT_MAX) {
+            if (position < length)
+                printf(" (line %lu)", line_of(text, position));
+            else
+                printf(" (end of the text)");
+        }
+        printf("\n");
     }
-    printf("refused %u at %u: %s\n", (unsigned)BATTENPLUM_NUMBER(verdict), (unsigned)BATTENPLUM_POSITION(verdict),
-           meaning(BATTENPLUM_NUMBER(verdict)));
-    return 1;
+    /* What was printed may still be in the buffer: a full disk is noticed here. */
+    if (fflush(stdout) != 0 || ferror(stdout))
+        return trouble("standard output", errno);
+    return number == BATTENPLUM_ACCEPTED ? ACCEPTED : REFUSED;
 }

@@ -1,17 +1,19 @@
-/* Battenplum: claims on dispatch books, read, checked and made.
+/* Battenplum: reads dispatch books, checks claims on them and works out claims.
  *
- * Every call is a plain function of what is lent to it. Nothing is kept between calls, nothing is allocated, and any thread
- * may call at any time.
+ * The functions keep nothing between calls and allocate nothing. Any thread may call them at any time.
+ * battenplum(3) is the manual page of these calls; battenplum-book(5) describes the text of a book, and claims.
  *
- * Lent slices. A slice is a pointer and a length, in this order. The length counts entries, not bytes. A pointer is aligned for
- * its type and valid for its length; with length 0 it may be null. A slice that a call writes overlaps no other slice lent to
- * that call. The library relies on this and does not test it.
+ * Arrays. An array is passed as a pointer and a length. The length counts entries, not bytes. The pointer must be aligned for its
+ * type and valid for the whole length; it may be null if the length is 0. An array that a call writes must not overlap any other
+ * array passed to that call. The library relies on this and does not test it. It tests everything else: no content and no length
+ * of an array makes a call read or write outside it.
  *
- * Verdicts. A verdict is a number and a position: number * 65536 + position, and 0 if the text or the claim is accepted. What
- * each number means is in REFUSALS.md and battenplum-book(5).
+ * Counting. Atoms, rows, places and byte offsets all count from 0.
  *
- * Stack. All calls work on the caller's stack. battenplum_verdict holds tables of full size there,
- * about 85 KB; the others need a few kilobytes.
+ * Verdicts. A verdict is a number and a position, packed as number * 65536 + position. 0 means accepted.
+ *
+ * Machines and stack. The library is built for x86-64 Linux. All work is done on the caller's stack: a thread needs about 96 KB
+ * for battenplum_verdict and battenplum_report, and about 8 KB for the other calls.
  */
 #ifndef BATTENPLUM_H
 #define BATTENPLUM_H
@@ -19,11 +21,29 @@
 #include <stddef.h>
 #include <stdint.h>
 
+/* The version of this header. Before 1.0 each minor version may change the calls. */
+#define BATTENPLUM_VERSION_MAJOR 0
+#define BATTENPLUM_VERSION_MINOR 1
+#define BATTENPLUM_VERSION "0.1"
+
+/* For functions defined in this header: inline where the language has it, and no warning if unused. */
+#if defined(__cplusplus) || (defined(__STDC_VERSION__) && __STDC_VERSION__ >= 199901L)
+#define BATTENPLUM_INLINE static inline
+#elif defined(__GNUC__)
+#define BATTENPLUM_INLINE static __inline__
+#else
+#define BATTENPLUM_INLINE static
+#endif
+
 #ifdef __cplusplus
 extern "C" {
 #endif
 
-/* The most entries that a table of a book has. Tables of these sizes hold every book. */
+/* The longest text of a book, in bytes, and the size of a page that holds every report. */
+#define BATTENPLUM_TEXT_MAX 65535
+#define BATTENPLUM_PAGE_SIZE 19487
+
+/* The largest number of entries in each table. Tables of these sizes hold every book. */
 #define BATTENPLUM_ATOMS 1024
 #define BATTENPLUM_RULE_ENTRIES 6144   /* 2,048 rows: head, start, count */
 #define BATTENPLUM_CLAUSE_ENTRIES 4096 /* 2,048 rows: start, count */
@@ -31,20 +51,77 @@ extern "C" {
 #define BATTENPLUM_LOAD_ENTRIES 256    /* 64 rows: LO, HI, start, count */
 #define BATTENPLUM_TERMS 4096          /* load literals, and as many minutes */
 
-/* The number and the position of a verdict. */
+/* The number and the position of a verdict. Both also work on what battenplum_evaluate returns. */
 #define BATTENPLUM_NUMBER(verdict) ((uint32_t)(verdict) >> 16)
 #define BATTENPLUM_POSITION(verdict) ((uint32_t)(verdict) & 0xFFFFu)
 
-/* What battenplum_read answers where `answer` has not seven places. No verdict is this number. */
-#define BATTENPLUM_NO_ANSWER 0xFFFFFFFFu
+/* The numbers of a verdict, with what the position is. */
+enum {
+    BATTENPLUM_ACCEPTED = 0,
 
-/* The verdict on a text: it is read, and then its claim is checked, or its open form evaluated.
- * Reads the text. Writes nothing. */
+    /* The text. The position is the byte offset of the line. */
+    BATTENPLUM_MALFORMED = 1,
+    BATTENPLUM_OUTSIDE_LIMITS = 2, /* 0 for a text that is too long */
+    BATTENPLUM_OUT_OF_ORDER = 3,   /* the text's length for a line that is missing */
+    BATTENPLUM_NO_SPACE = 4,       /* battenplum_read alone: a table is too short for the text */
+
+    /* The tables. Of these a text can cause only 12, 15 and 16, by naming an atom that the book does not have. */
+    BATTENPLUM_BAD_SIZES = 11,      /* 0 */
+    BATTENPLUM_BAD_RULE_ROW = 12,   /* the rule */
+    BATTENPLUM_BAD_CLAUSE_ROW = 13, /* the clause */
+    BATTENPLUM_BAD_LOAD_ROW = 14,   /* the load line */
+    BATTENPLUM_BAD_LITERAL = 15,    /* the place in `literals` */
+    BATTENPLUM_BAD_TERM = 16,       /* the place in `load_literals` and `minutes` */
+    BATTENPLUM_BAD_LENGTH = 17,     /* 0 */
+
+    /* The claim, or the open values. */
+    BATTENPLUM_BAD_VALUE = 21,   /* the atom */
+    BATTENPLUM_BAD_LEVEL = 22,   /* the atom */
+    BATTENPLUM_UNSUPPORTED = 23, /* the atom */
+    BATTENPLUM_UNBLOCKED = 24,   /* the rule */
+
+    /* The book with the day's open facts. */
+    BATTENPLUM_UNDECIDED = 25,      /* the atom */
+    BATTENPLUM_FAILING_CLAUSE = 26, /* the clause */
+    BATTENPLUM_FAILING_LOAD = 27    /* the load line */
+};
+
+/* What a number means, in a few words. */
+BATTENPLUM_INLINE const char *battenplum_message(uint32_t number) {
+    switch (number) {
+    case BATTENPLUM_ACCEPTED: return "accepted";
+    case BATTENPLUM_MALFORMED: return "a line is malformed";
+    case BATTENPLUM_OUTSIDE_LIMITS: return "a number or a count is outside its limits, or the text is too long";
+    case BATTENPLUM_OUT_OF_ORDER: return "a line is out of order or missing";
+    case BATTENPLUM_NO_SPACE: return "a table is too short for the text";
+    case BATTENPLUM_BAD_SIZES: return "the number of atoms or the size of a table is wrong";
+    case BATTENPLUM_BAD_RULE_ROW: return "a rule's head is not an atom of the book, or its body lies outside the table";
+    case BATTENPLUM_BAD_CLAUSE_ROW: return "a clause lies outside the table";
+    case BATTENPLUM_BAD_LOAD_ROW: return "a load line lies outside the table, or its bounds are out of range";
+    case BATTENPLUM_BAD_LITERAL: return "a rule or clause names an atom that the book does not have";
+    case BATTENPLUM_BAD_TERM: return "a load line names an atom that the book does not have, or its minutes are out of range";
+    case BATTENPLUM_BAD_LENGTH: return "an array does not have one entry for each atom";
+    case BATTENPLUM_BAD_VALUE: return "a value is not 0 or 1, or an atom that a rule defines is set from outside";
+    case BATTENPLUM_BAD_LEVEL: return "a level is out of range";
+    case BATTENPLUM_UNSUPPORTED: return "a true atom has no rule that makes it true";
+    case BATTENPLUM_UNBLOCKED: return "a false atom has a rule that nothing blocks";
+    case BATTENPLUM_UNDECIDED: return "an atom is undecided: the rules make it neither true nor false";
+    case BATTENPLUM_FAILING_CLAUSE: return "a clause fails";
+    case BATTENPLUM_FAILING_LOAD: return "a load line fails";
+    default: return "unknown number";
+    }
+}
+
+/* Reads a text, then checks its claim or works out the model for its open atoms, and returns the verdict. */
 uint32_t battenplum_verdict(const uint8_t *text, size_t text_len);
 
-/* The check of a claim on lent tables: whether `values` and `levels`, one entry for each of the n atoms, are the well-founded
- * model for their open atoms with a level mapping that shows it, and satisfy all clauses and load lines.
- * Reads all slices. Writes nothing. */
+/* Writes the report of a text at the front of `page`, byte for byte as the program battenplum(1) prints it, and returns its length.
+ * A page shorter than BATTENPLUM_PAGE_SIZE is left as it was, and 0 is returned. No report is empty. */
+size_t battenplum_report(const uint8_t *text, size_t text_len, uint8_t *page, size_t page_len);
+
+/* Checks a claim on tables and returns the verdict: accepted exactly if `values` are the well-founded model for their open atoms, `levels`
+ * obey the level rules, and all clauses and load lines hold. `values` and `levels` must each be exactly n long (else 17).
+ * Writes nothing. A text that battenplum_read accepts can still be refused here: 12, 15 and 16 for an atom that is not below N. */
 uint32_t battenplum_check(size_t n,
                           const uint16_t *rules, size_t rules_len,
                           const uint16_t *literals, size_t literals_len,
@@ -55,10 +132,11 @@ uint32_t battenplum_check(size_t n,
                           const uint8_t *values, size_t values_len,
                           const uint16_t *levels, size_t levels_len);
 
-/* The maker on lent tables: rounds * 2^32 + the verdict. `open_values` has the open atoms' values and 0 at defined atoms.
- * For the numbers 0, 25, 26 and 27 it writes n entries each: the well-founded model to `values` (2 for an undecided atom), the
- * stages to `levels` (0 for open and undecided atoms), and 0 to `work`. For every other number it writes nothing, and rounds
- * is 0. */
+/* Works out the well-founded model and returns rounds * 2^32 + the verdict. `open_values`, `values`, `levels` and `work` must each be
+ * exactly n long (else 17). `open_values` has 0 or 1 for each open atom and 0 for each atom that heads a rule (else 21).
+ * For the numbers 0, 25, 26 and 27 it writes the model to `values` (2 for an undecided atom), each atom's stage to `levels` (0 for open
+ * and undecided atoms) and 0 to all of `work`. For every other number it writes nothing, and the rounds are 0. What `values`, `levels` and
+ * `work` held before makes no difference. */
 uint64_t battenplum_evaluate(size_t n,
                              const uint16_t *rules, size_t rules_len,
                              const uint16_t *literals, size_t literals_len,
@@ -71,12 +149,34 @@ uint64_t battenplum_evaluate(size_t n,
                              uint16_t *levels, size_t levels_len,
                              uint16_t *work, size_t work_len);
 
-/* The reader into lent tables, so that a host can read a book once and check many claims on it. `answer` has seven places: N, the
- * entries used of rules, literals, clauses, loads and terms, and the state form (0 none, 1 open, 2 claim). Hand the used parts
- * on to battenplum_check and battenplum_evaluate.
- * For an accepted text the tables hold its entries at their front and keep what they held beyond them; an open form fills N
- * values and no levels, a claim N of both. For a refused text the tables keep all they held, and `answer` is all 0.
- * With an `answer` of another length nothing is written and BATTENPLUM_NO_ANSWER is answered. */
+/* The rounds in what battenplum_evaluate returns. */
+BATTENPLUM_INLINE uint32_t battenplum_rounds(uint64_t evaluated) { return (uint32_t)(evaluated >> 32); }
+
+/* The places of `answer` of battenplum_read. All but the first and the last are entries, not rows. */
+enum {
+    BATTENPLUM_ANSWER_ATOMS = 0,
+    BATTENPLUM_ANSWER_RULES = 1,
+    BATTENPLUM_ANSWER_LITERALS = 2,
+    BATTENPLUM_ANSWER_CLAUSES = 3,
+    BATTENPLUM_ANSWER_LOADS = 4,
+    BATTENPLUM_ANSWER_TERMS = 5, /* of load literals, and of minutes */
+    BATTENPLUM_ANSWER_STATE = 6,
+    BATTENPLUM_ANSWER_PLACES = 7
+};
+
+/* How a text ended: the last place of `answer`. */
+enum { BATTENPLUM_STATE_NONE = 0, BATTENPLUM_STATE_OPEN = 1, BATTENPLUM_STATE_CLAIM = 2 };
+
+/* What battenplum_read returns if `answer` does not have exactly seven places. No verdict is this number. */
+#define BATTENPLUM_NO_ANSWER 0xFFFFFFFFu
+
+/* Reads a text into tables, so that a book can be read once and many claims checked on it. Returns the verdict on the text alone; its number is
+ * 0 to 4.
+ * If the text is accepted, each table has its entries at the front and keeps what it held behind them. `answer` receives N, how many
+ * entries of each table are in use, and how the text ended. Pass those lengths on, not the room that the tables have. An open line
+ * writes N values (1 for each atom that it names, else 0) and leaves `levels` alone; a claim writes N values and N levels.
+ * If it is refused, the tables keep what they held, and `answer` is all 0.
+ * `answer` must have exactly seven places; otherwise nothing is written and BATTENPLUM_NO_ANSWER is returned. */
 uint32_t battenplum_read(const uint8_t *text, size_t text_len,
                          uint16_t *rules, size_t rules_len,
                          uint16_t *literals, size_t literals_len,
@@ -87,6 +187,97 @@ uint32_t battenplum_read(const uint8_t *text, size_t text_len,
                          uint8_t *values, size_t values_len,
                          uint16_t *levels, size_t levels_len,
                          uint32_t *answer, size_t answer_len);
+
+/* The same calls with the tables in one struct. The lengths are those in use. The wrappers below pass tables->n as the length of every array
+ * that has one entry for each atom, so they cannot notice one that is shorter. */
+typedef struct battenplum_tables {
+    size_t n;
+    const uint16_t *rules;
+    size_t rules_len;
+    const uint16_t *literals;
+    size_t literals_len;
+    const uint16_t *clauses;
+    size_t clauses_len;
+    const int32_t *loads;
+    size_t loads_len;
+    const uint16_t *load_literals;
+    size_t load_literals_len;
+    const int16_t *minutes;
+    size_t minutes_len;
+} battenplum_tables;
+
+/* Room for every book, about 72 KB: keep it off small stacks. */
+typedef struct battenplum_storage {
+    int32_t loads[BATTENPLUM_LOAD_ENTRIES];
+    uint16_t rules[BATTENPLUM_RULE_ENTRIES];
+    uint16_t literals[BATTENPLUM_LITERALS];
+    uint16_t clauses[BATTENPLUM_CLAUSE_ENTRIES];
+    uint16_t load_literals[BATTENPLUM_TERMS];
+    int16_t minutes[BATTENPLUM_TERMS];
+    uint16_t levels[BATTENPLUM_ATOMS];
+    uint8_t values[BATTENPLUM_ATOMS];
+} battenplum_storage;
+
+/* battenplum_read into `storage`. `tables` then points to the parts of it in use, and `state` says how the text ended. For a refused text
+ * `tables` has no atoms and no entries. The calls below accept such an empty book, so look at this verdict first. The number 4 does not occur. */
+BATTENPLUM_INLINE uint32_t battenplum_read_tables(const uint8_t *text, size_t text_len, battenplum_storage *storage,
+                                                  battenplum_tables *tables, uint32_t *state) {
+    uint32_t answer[BATTENPLUM_ANSWER_PLACES];
+    uint32_t verdict = battenplum_read(text, text_len,
+                                       storage->rules, BATTENPLUM_RULE_ENTRIES,
+                                       storage->literals, BATTENPLUM_LITERALS,
+                                       storage->clauses, BATTENPLUM_CLAUSE_ENTRIES,
+                                       storage->loads, BATTENPLUM_LOAD_ENTRIES,
+                                       storage->load_literals, BATTENPLUM_TERMS,
+                                       storage->minutes, BATTENPLUM_TERMS,
+                                       storage->values, BATTENPLUM_ATOMS,
+                                       storage->levels, BATTENPLUM_ATOMS,
+                                       answer, BATTENPLUM_ANSWER_PLACES);
+    tables->n = answer[BATTENPLUM_ANSWER_ATOMS];
+    tables->rules = storage->rules;
+    tables->rules_len = answer[BATTENPLUM_ANSWER_RULES];
+    tables->literals = storage->literals;
+    tables->literals_len = answer[BATTENPLUM_ANSWER_LITERALS];
+    tables->clauses = storage->clauses;
+    tables->clauses_len = answer[BATTENPLUM_ANSWER_CLAUSES];
+    tables->loads = storage->loads;
+    tables->loads_len = answer[BATTENPLUM_ANSWER_LOADS];
+    tables->load_literals = storage->load_literals;
+    tables->load_literals_len = answer[BATTENPLUM_ANSWER_TERMS];
+    tables->minutes = storage->minutes;
+    tables->minutes_len = answer[BATTENPLUM_ANSWER_TERMS];
+    *state = answer[BATTENPLUM_ANSWER_STATE];
+    return verdict;
+}
+
+/* battenplum_check. `values` and `levels` have tables->n entries each. */
+BATTENPLUM_INLINE uint32_t battenplum_check_tables(const battenplum_tables *tables, const uint8_t *values, const uint16_t *levels) {
+    return battenplum_check(tables->n,
+                            tables->rules, tables->rules_len,
+                            tables->literals, tables->literals_len,
+                            tables->clauses, tables->clauses_len,
+                            tables->loads, tables->loads_len,
+                            tables->load_literals, tables->load_literals_len,
+                            tables->minutes, tables->minutes_len,
+                            values, tables->n,
+                            levels, tables->n);
+}
+
+/* battenplum_evaluate. `open_values`, `values`, `levels` and `work` have tables->n entries each. */
+BATTENPLUM_INLINE uint64_t battenplum_evaluate_tables(const battenplum_tables *tables, const uint8_t *open_values,
+                                                      uint8_t *values, uint16_t *levels, uint16_t *work) {
+    return battenplum_evaluate(tables->n,
+                               tables->rules, tables->rules_len,
+                               tables->literals, tables->literals_len,
+                               tables->clauses, tables->clauses_len,
+                               tables->loads, tables->loads_len,
+                               tables->load_literals, tables->load_literals_len,
+                               tables->minutes, tables->minutes_len,
+                               open_values, tables->n,
+                               values, tables->n,
+                               levels, tables->n,
+                               work, tables->n);
+}
 
 #ifdef __cplusplus
 }

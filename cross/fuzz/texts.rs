@@ -5,7 +5,7 @@
 
 use cross::{
     book::Lengths,
-    calls::Calls,
+    calls::{Calls, PAGE_SIZE},
     differ::{
         case::Case,
         guarded::GuardedLibrary,
@@ -36,11 +36,12 @@ pub extern "C" fn LLVMFuzzerTestOneInput(bytes: *const u8, length: usize) -> i32
     0
 }
 
-/// The verdict, the reading into tables of various lengths, and the check or the maker on what was read.
+/// The verdict, the report, the reading into tables of various lengths, and the check or the maker on what was read.
 fn compare(library: &dyn Calls, text: &[u8]) -> Compared {
     let random = Random::new(text.iter().fold(0, |sum, &byte| sum * 31 % 1_000_003 + u64::from(byte)));
     let mut session = Session::new(Solver::default(), &[Side::Calls(library), Side::Calls(&Fast)], random, 1);
     session.compare(Case::verdict(text))?;
+    session.compare(Case::report(text, PAGE_SIZE))?;
     let read = session.solver.read(text, &Lengths::FULL);
     for _ in 0..2 {
         let lent = lengths::about(&mut session.random, &read);

@@ -1,4 +1,4 @@
-//! The four calls on plain slices, as one trait: the C library is one implementation of it, `fast` the other.
+//! The five calls on plain slices, as one trait: the C library is one implementation of it, `fast` the other.
 
 use crate::book::Book;
 
@@ -40,10 +40,14 @@ pub struct TablesToFill<'a> {
     pub levels: &'a mut [u16],
 }
 
+/// `BATTENPLUM_PAGE_SIZE` of the header: such a page holds every report, and a shorter one is left as it is.
+pub const PAGE_SIZE: usize = 19_487;
+
 /// What each answer means is in `include/battenplum.h`.
 pub trait Calls {
     fn name(&self) -> &'static str;
     fn verdict(&self, text: &[u8]) -> u32;
+    fn report(&self, text: &[u8], page: &mut [u8]) -> usize;
     fn check(&self, tables: Tables, values: &[u8], levels: &[u16]) -> u32;
     fn evaluate(&self, tables: Tables, open_values: &[u8], values: &mut [u8], levels: &mut [u16], work: &mut [u16]) -> u64;
     fn read(&self, text: &[u8], tables: TablesToFill, answer: &mut [u32]) -> u32;
@@ -56,6 +60,8 @@ pub struct Library;
 mod c {
     extern "C" {
         pub fn battenplum_verdict(text: *const u8, text_len: usize) -> u32;
+
+        pub fn battenplum_report(text: *const u8, text_len: usize, page: *mut u8, page_len: usize) -> usize;
 
         pub fn battenplum_check(
             n: usize,
@@ -107,6 +113,10 @@ impl Calls for Library {
 
     fn verdict(&self, text: &[u8]) -> u32 {
         unsafe { c::battenplum_verdict(text.as_ptr(), text.len()) }
+    }
+
+    fn report(&self, text: &[u8], page: &mut [u8]) -> usize {
+        unsafe { c::battenplum_report(text.as_ptr(), text.len(), page.as_mut_ptr(), page.len()) }
     }
 
     fn check(&self, t: Tables, values: &[u8], levels: &[u16]) -> u32 {

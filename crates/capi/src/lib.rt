@@ -9,6 +9,7 @@ ghost use Rattle.checker.specs.Check.{checkOf};
 ghost use Rattle.evaluator.specs.Evaluate.{evaluateOf};
 ghost use Rattle.forms.specs.Contents.{lentTables};
 ghost use Rattle.outcome.specs.Outcomes.{outcomeOf};
+ghost use Rattle.report.specs.Reports.{Reported};
 ghost use Rattle.capi.specs.Packing.{packed, countsOf, EvaluatedForC, ReadForC};
 ghost use Rattle.capi.specs.internal.Counts.{WithinBook};
 use booktext::Book;
@@ -17,6 +18,7 @@ use booktext::state_number;
 use checker::check;
 use evaluator::evaluate;
 use outcome::outcome_of;
+use report::report;
 use tables::Verdict;
 use tables::number_of;
 use tables::position_of;
@@ -43,6 +45,14 @@ pub extern "C" fn battenplum_verdict(text: &[u8]) -> u32
     let outcome = outcome_of(text, &mut values, &mut levels);
     let verdict = outcome.verdict;
     pack(verdict)
+}
+
+// The report of a text, as the program prints it, at the front of a page; the answer is its length, or 0 for a page that is too short.
+#[no_mangle]
+pub extern "C" fn battenplum_report(text: &[u8], page: &mut [u8]) -> usize
+    ensures { λ r. ⌜ Reported (now (text .entry)) (now (page .entry)) r (now (page .exit)) ⌝ }
+{
+    report(text, page)
 }
 
 // The check of a claim on lent tables.

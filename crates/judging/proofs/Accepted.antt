@@ -25,9 +25,8 @@ use Rattle.judging.specs.Judging.{atomBound, numbersWithin, withinLimits
 use Rattle.judging.specs.Books.{afterAll, IsBook, BookText, passes, allPass, PassesUpTo}
 use Rattle.judging.proofs.Walking.{judge-passed, forms-all, WalkEnd, accepted, refusedAt, walked}
 use Rattle.judging.proofs.Sequences.{follows, may-follow, follows-here, follows-later, phase-on, follows-sequence, sequence-follows}
-use Rattle.judging.proofs.StateLaws.{after-size}
-use Rattle.judging.proofs.Counts.{counts-before, each-fits, fits-before}
-use Rattle.judging.proofs.TableLaws.{start-count}
+use Rattle.judging.proofs.StateLaws.{start-limits, after-size}
+use Rattle.judging.proofs.Counts.{counts-before, start-fits, fits-before}
 
 -- What it is for a form to pass, part by part.
 pub record Passing (space : Space) (s : Reached) (f : Form) : Type 0 where
@@ -153,14 +152,6 @@ module _ (space : Space) where
       }))
       (book-passes (after s f) fs onwards rest c k)
 
--- Before the first line everything is within its limits and held.
-start-within : countsWithin start ≡ true
-unfolding countsWithin start
-start-within = refl
-
-start-held : (space : Space) → fits space start ≡ true
-start-held space = each-fits space start λ table. omega (arith, start-count table)
-
 -- The number of atoms never exceeds the most that a book has.
 size-within :
     (space : Space) (s : Reached) (fs : List Form) → s .size ≤ maxAtoms → allPass space s fs ≡ true → afterAll s fs .size ≤ maxAtoms
@@ -182,9 +173,9 @@ module _ (space : Space) (fs : List Form) where
       record {
         sequence = follows-sequence fs g;
         numbers = t .numbers;
-        counts = passed-counts space start fs (p .passed) start-within;
+        counts = passed-counts space start fs (p .passed) start-limits;
         ordered = t .ordered;
-        held = passed-held space start fs (p .passed) (start-held space);
+        held = passed-held space start fs (p .passed) (start-fits space);
       }
 
   pub book-passed : IsBook space fs → PassesUpTo space fs × (openStood ≤ afterAll start fs .phase)

@@ -14,10 +14,10 @@ use Rattle.format.specs.Forms.{Form}
 use Rattle.judging.specs.declared.reached.Reached.{Reached}
 use Rattle.judging.specs.declared.reached.Space.{Space}
 use Rattle.judging.specs.LentTables.{Table, roomIn}
-use Rattle.judging.specs.States.{inLoads, advanced, after, countsWithin, countIn, fits}
+use Rattle.judging.specs.States.{inLoads, start, advanced, after, countsWithin, countIn, fits}
 use Rattle.judging.specs.Books.{afterAll}
 use Rattle.judging.proofs.StateLaws.{values-early, levels-early}
-use Rattle.judging.proofs.TableLaws.{each-table, every-use, every-make}
+use Rattle.judging.proofs.TableLaws.{each-table, every-use, every-make, start-count}
 use Rattle.judging.proofs.Sequences.{follows, follows-here, follows-later}
 
 -- Tests that all hold, one by one.
@@ -62,7 +62,7 @@ counts-within s t =
       terms = leb-true _ _ (k .4);
     }
 
-pub within-counts : (s : Reached) → CountsWithin s → countsWithin s ≡ true
+within-counts : (s : Reached) → CountsWithin s → countsWithin s ≡ true
 unfolding countsWithin
 within-counts s c = simp (le-leb _ _ (c .rules), le-leb _ _ (c .literals), le-leb _ _ (c .clauses), le-leb _ _ (c .loads), le-leb _ _ (c .terms))
 
@@ -90,6 +90,10 @@ module _ (space : Space) where
   pub each-fits : (s : Reached) → ((table : Table) → countIn s table ≤ roomIn space table) → fits space s ≡ true
   unfolding fits
   each-fits s h = every-make (λ table. leb (countIn s table) (roomIn space table)) (λ table. le-leb _ _ (h table))
+
+  -- Before the first line every table has room.
+  pub start-fits : fits space start ≡ true
+  start-fits = each-fits start λ table. omega (arith, start-count table)
 
   pub fits-before : (s : Reached) (fs : List Form) → follows s fs ≡ true → fits space (afterAll s fs) ≡ true → fits space s ≡ true
   unfolding afterAll

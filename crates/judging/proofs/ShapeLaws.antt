@@ -21,10 +21,11 @@ use Rattle.numerals.proofs.CappedLaws.{capped-small}
 use Rattle.judging.specs.declared.reached.Reached.{Reached}
 use Rattle.judging.specs.declared.reached.Space.{Space}
 use Rattle.judging.specs.declared.reached.Shape.{Shape}
+use Rattle.judging.specs.declared.reached.Counted.{Counted}
 use Rattle.judging.specs.declared.reached.Move.the-variants.{On, Stop}
 use Rattle.judging.specs.States.{advanced, after, countsWithin, fits}
 use Rattle.judging.specs.Judging.{atomBound, numbersWithin, withinLimits, mayFollow, risesFrom, partsInOrder, inOrder, Step, on, stop, judgeForm}
-use Rattle.judging.specs.internal.Shapes.{cappedRise, partsIn, shapeOf, orderOf, added, reachedBy, judgeShape, asMove}
+use Rattle.judging.specs.internal.Shapes.{cappedRise, partsIn, shapeOf, orderOf, added, reachedBy, judgeShape, CountedAs, asMove}
 use Rattle.judging.proofs.LimitLaws.{size-limit, atoms-limit}
 use Rattle.judging.proofs.StateLaws.{bound-most}
 
@@ -118,52 +119,45 @@ shape-judged space s f l = rw (same-parts s f (capped (viewOf f .size))) (step (
     step true e = rw (same-size s f e, same-order s f l e)
     step false e = refl
 
--- What code knows of a shape once its limits were tested, and once its order was tested. `then` is the state after it.
-pub record Limited (s : Reached) (shape : Shape) (then : Reached) : Type 0 where
-  pub reaches : then ≡ reachedBy s shape
-  pub limits : (shape .within && countsWithin (reachedBy s shape)) ≡ true
-
-pub record Ordered (s : Reached) (shape : Shape) (then : Reached) : Type 0 where
-  pub limited : Limited s shape then
-  pub order : (mayFollow (shape .kind) (s .phase) && orderOf s (shape .kind) (shape .parts) (shape .rising)) ≡ true
-
--- Code tests what the state after a shape counts, and then its order and the space for it.
-module _ (s : Reached) (shape : Shape) (then : Reached) where
-  pub limited-shape :
-      (counts : Bool) → then ≡ added s (shape .kind) (shape .size) (shape .parts) → counts ≡ countsWithin then →
-      not (shape .within && counts) ≡ false → Limited s shape then
-  unfolding reachedBy
-  limited-shape counts e k f =
-      record { reaches = e; limits = rw (← e, ← k) (not-false (shape .within && counts) f) }
-
-  pub ordered-shape :
-      (follows ordered : Bool) → Limited s shape then → follows ≡ mayFollow (shape .kind) (s .phase) →
-      ordered ≡ orderOf s (shape .kind) (shape .parts) (shape .rising) → not (follows && ordered) ≡ false → Ordered s shape then
-  ordered-shape follows ordered l m o f =
-      record { limited = l; order = rw (← m, ← o) (not-false (follows && ordered) f) }
-
-module _ (space : Space) (s : Reached) (shape : Shape) (next : ℕ) (then : Reached) where
-  pub shape-outside-limits :
-      (counts : Bool) → then ≡ added s (shape .kind) (shape .size) (shape .parts) → counts ≡ countsWithin then →
-      not (shape .within && counts) ≡ true → Stop OutsideLimits ≡ asMove next (judgeShape space s shape)
+-- Code counts a form of some shape, and tests its limits, then its order and then the space for it.
+module _ (space : Space) (s : Reached) (shape : Shape) (next : ℕ) {answer : Counted}
+    (counts : CountedAs space (added s (shape .kind) (shape .size) (shape .parts)) answer) where
+  pub shape-outside-limits : not (shape .within && answer .within) ≡ true → Stop OutsideLimits ≡ asMove next (judgeShape space s shape)
   unfolding reachedBy judgeShape asMove
-  shape-outside-limits counts e k t = rw (← e, ← k, not-true (shape .within && counts) t)
+  shape-outside-limits t = rw (← counts .limits, not-true (shape .within && answer .within) t)
 
-  pub shape-out-of-order :
-      (follows ordered : Bool) → Limited s shape then → follows ≡ mayFollow (shape .kind) (s .phase) →
-      ordered ≡ orderOf s (shape .kind) (shape .parts) (shape .rising) → not (follows && ordered) ≡ true →
-      Stop OutOfOrder ≡ asMove next (judgeShape space s shape)
-  unfolding judgeShape asMove
-  shape-out-of-order follows ordered l m o t = rw (l .limits, ← m, ← o, not-true (follows && ordered) t)
+  module _ {follows ordered : Bool} (limits : not (shape .within && answer .within) ≡ false) (follow : follows ≡ mayFollow (shape .kind) (s .phase))
+      (order : ordered ≡ orderOf s (shape .kind) (shape .parts) (shape .rising)) where
+    pub shape-out-of-order : not (follows && ordered) ≡ true → Stop OutOfOrder ≡ asMove next (judgeShape space s shape)
+    unfolding reachedBy judgeShape asMove
+    shape-out-of-order t =
+        rw (← counts .limits, ← follow, ← order, not-false (shape .within && answer .within) limits, not-true (follows && ordered) t)
 
-  pub shape-no-space :
-      (fitting : Bool) → Ordered s shape then → fitting ≡ fits space then → not fitting ≡ true →
-      Stop NoSpace ≡ asMove next (judgeShape space s shape)
-  unfolding judgeShape asMove
-  shape-no-space fitting o e t = rw (o .limited .limits, o .order, ← o .limited .reaches, ← e, not-true fitting t)
+    pub shape-no-space :
+        not (follows && ordered) ≡ false → not (answer .fits) ≡ true → Stop NoSpace ≡ asMove next (judgeShape space s shape)
+    unfolding reachedBy judgeShape asMove
+    shape-no-space f t =
+        rw (
+          ← counts .limits,
+          ← counts .fitting,
+          ← follow,
+          ← order,
+          not-false (shape .within && answer .within) limits,
+          not-false (follows && ordered) f,
+          not-true (answer .fits) t,
+        )
 
-  pub shape-moves-on :
-      (fitting : Bool) → Ordered s shape then → fitting ≡ fits space then → not fitting ≡ false →
-      On then next ≡ asMove next (judgeShape space s shape)
-  unfolding judgeShape asMove
-  shape-moves-on fitting o e f = rw (o .limited .limits, o .order, ← o .limited .reaches, ← e, not-false fitting f)
+    pub shape-moves-on :
+        not (follows && ordered) ≡ false → not (answer .fits) ≡ false → On (answer .then) next ≡ asMove next (judgeShape space s shape)
+    unfolding reachedBy judgeShape asMove
+    shape-moves-on f g =
+        rw (
+          counts .state,
+          ← counts .limits,
+          ← counts .fitting,
+          ← follow,
+          ← order,
+          not-false (shape .within && answer .within) limits,
+          not-false (follows && ordered) f,
+          not-false (answer .fits) g,
+        )

@@ -19,10 +19,10 @@ use Rattle.judging.specs.States.{nothingYet, openStood, claimStood, star
 use Rattle.judging.proofs.LimitLaws.{size-limit}
 use Rattle.judging.specs.Judging.{atomBound, numbersWithin, withinLimits, inOrder, on, stop, judgeForm}
 
--- Before the first line nothing is counted.
-pub start-counts : countsWithin start ≡ true
+-- Before the first line all counts are within the limits.
+pub start-limits : countsWithin start ≡ true
 unfolding start countsWithin
-start-counts = refl
+start-limits = refl
 
 -- The state after a form within its limits is within the limits of a book.
 pub after-counts : (s : Reached) (f : Form) → withinLimits s f ≡ true → countsWithin (after s f) ≡ true

@@ -1,10 +1,10 @@
 // The state that the lines read so far have reached, and how a line is judged in it.
 ghost use mathlib.Core.Path.{_≡_};
-ghost use mathlib.Core.Bool.{true};
 ghost use Prim.Native.Nat.{_≤_};
-ghost use Rattle.judging.specs.States.{start, countsWithin, valuesCounted, levelsCounted, fits};
+ghost use Rattle.format.specs.declared.kinds.Kind.the-variants.{Rule, Clause, Load};
+ghost use Rattle.judging.specs.States.{start};
 ghost use Rattle.judging.specs.Judging.{between, mayFollow, maxBytes};
-ghost use Rattle.judging.specs.internal.Shapes.{added, orderOf, judgeShape, asMove};
+ghost use Rattle.judging.specs.internal.Shapes.{added, orderOf, judgeShape, asMove, CountsFit, CountedAs};
 use format::kinds::Kind;
 use tables::Fault;
 use tables::load_rows::LOAD_WIDTH;
@@ -89,90 +89,101 @@ pub fn start() -> Reached
     }
 }
 
-// The state after a form of some shape.
-fn after(reached: Reached, kind: Kind, size: usize, parts: usize) -> Reached
-    requires { ⌜ (countsWithin reached ≡ true) × (parts ≤ maxBytes) ⌝ }
-    ensures { λ r. ⌜ r ≡ added reached kind size parts ⌝ }
+// The state after a form, and whether all that is counted then is within the limits of a book and has space in the lent tables.
+struct Counted {
+    then: Reached,
+    within: bool,
+    fits: bool,
+}
+
+// Counts a rule. What a form adds nothing to was within the limits and had space before, so only the rest is compared, here and below.
+fn count_rule(space: Space, reached: Reached, parts: usize) -> Counted
+    requires { ⌜ CountsFit space reached × (parts ≤ maxBytes) ⌝ }
+    ensures { λ r. ⌜ CountedAs space (added reached Rule 0 parts) r ⌝ }
 {
     let mut then = reached;
+    then.phase = IN_RULES;
+    then.rules = reached.rules + RULE_WIDTH;
+    then.literals = reached.literals + parts;
+    Counted {
+        then,
+        within: (then.rules <= MAX_RULE_ENTRIES) & (then.literals <= MAX_LITERALS),
+        fits: (then.rules <= space.rules) & (then.literals <= space.literals),
+    }
+}
+
+// Counts a clause.
+fn count_clause(space: Space, reached: Reached, parts: usize) -> Counted
+    requires { ⌜ CountsFit space reached × (parts ≤ maxBytes) ⌝ }
+    ensures { λ r. ⌜ CountedAs space (added reached Clause 0 parts) r ⌝ }
+{
+    let mut then = reached;
+    then.phase = IN_CLAUSES;
+    then.clauses = reached.clauses + CLAUSE_WIDTH;
+    then.literals = reached.literals + parts;
+    Counted {
+        then,
+        within: (then.literals <= MAX_LITERALS) & (then.clauses <= MAX_CLAUSE_ENTRIES),
+        fits: (then.literals <= space.literals) & (then.clauses <= space.clauses),
+    }
+}
+
+// Counts a load line.
+fn count_load(space: Space, reached: Reached, parts: usize) -> Counted
+    requires { ⌜ CountsFit space reached × (parts ≤ maxBytes) ⌝ }
+    ensures { λ r. ⌜ CountedAs space (added reached Load 0 parts) r ⌝ }
+{
+    let mut then = reached;
+    then.phase = IN_LOADS;
+    then.loads = reached.loads + LOAD_WIDTH;
+    then.terms = reached.terms + parts;
+    Counted {
+        then,
+        within: (then.loads <= MAX_LOAD_ENTRIES) & (then.terms <= MAX_TERMS),
+        fits: (then.loads <= space.loads)
+            & (then.terms <= space.load_literals)
+            & (then.terms <= space.minutes),
+    }
+}
+
+// Counts a form of some kind: `size` is the number of atoms that it names, `parts` how many parts it lists.
+fn count(space: Space, reached: Reached, kind: Kind, size: usize, parts: usize) -> Counted
+    requires { ⌜ CountsFit space reached × (parts ≤ maxBytes) ⌝ }
+    ensures { λ r. ⌜ CountedAs space (added reached kind size parts) r ⌝ }
+{
+    let mut then = reached;
+    let mut fits = true;
     match kind {
         Kind::Atoms => {
             then.phase = IN_RULES;
             then.size = size;
         }
         Kind::Rule => {
-            then.phase = IN_RULES;
-            then.rules = reached.rules + RULE_WIDTH;
-            then.literals = reached.literals + parts;
+            return count_rule(space, reached, parts);
         }
         Kind::Clause => {
-            then.phase = IN_CLAUSES;
-            then.clauses = reached.clauses + CLAUSE_WIDTH;
-            then.literals = reached.literals + parts;
+            return count_clause(space, reached, parts);
         }
         Kind::Load => {
-            then.phase = IN_LOADS;
-            then.loads = reached.loads + LOAD_WIDTH;
-            then.terms = reached.terms + parts;
+            return count_load(space, reached, parts);
         }
         Kind::Open => {
             then.phase = OPEN_STOOD;
+            fits = reached.size <= space.values;
         }
         Kind::Claim => {
             then.phase = CLAIM_STOOD;
+            fits = (reached.size <= space.values) & (reached.size <= space.levels);
         }
         Kind::Unknown => {
             then.phase = NOTHING_YET;
         }
     }
-    then
-}
-
-// Whether rows, literals and terms are within the limits of a book.
-fn counts_within(reached: Reached) -> bool
-    ensures { λ r. ⌜ r ≡ countsWithin reached ⌝ }
-{
-    (reached.rules <= MAX_RULE_ENTRIES)
-        & (reached.literals <= MAX_LITERALS)
-        & (reached.clauses <= MAX_CLAUSE_ENTRIES)
-        & (reached.loads <= MAX_LOAD_ENTRIES)
-        & (reached.terms <= MAX_TERMS)
-}
-
-// How many values are counted: one for each atom once a state form stood.
-fn values_counted(reached: Reached) -> usize
-    ensures { λ r. ⌜ r ≡ valuesCounted reached ⌝ }
-{
-    if OPEN_STOOD <= reached.phase {
-        reached.size
-    } else {
-        0
+    Counted {
+        then,
+        within: true,
+        fits,
     }
-}
-
-// How many levels are counted: one for each atom once a claim stood.
-fn levels_counted(reached: Reached) -> usize
-    ensures { λ r. ⌜ r ≡ levelsCounted reached ⌝ }
-{
-    if CLAIM_STOOD <= reached.phase {
-        reached.size
-    } else {
-        0
-    }
-}
-
-// Whether each lent table has as many entries as are counted for it.
-fn fits(space: Space, reached: Reached) -> bool
-    ensures { λ r. ⌜ r ≡ fits space reached ⌝ }
-{
-    (reached.rules <= space.rules)
-        & (reached.literals <= space.literals)
-        & (reached.clauses <= space.clauses)
-        & (reached.loads <= space.loads)
-        & (reached.terms <= space.load_literals)
-        & (reached.terms <= space.minutes)
-        & (values_counted(reached) <= space.values)
-        & (levels_counted(reached) <= space.levels)
 }
 
 // Whether a phase is among those in which a kind of form may follow.
@@ -209,20 +220,21 @@ fn parts_in_order(reached: Reached, kind: Kind, parts: usize, rising: bool) -> b
 
 // A form judged in the state reached so far: its limits first, then its order, then the space of the lent tables.
 pub fn judge_shape(space: Space, reached: Reached, shape: Shape, next: usize) -> Move
-    requires { ⌜ (countsWithin reached ≡ true) × (shape .parts ≤ maxBytes) ⌝ }
+    requires { ⌜ CountsFit space reached × (shape .parts ≤ maxBytes) ⌝ }
     ensures { λ r. ⌜ r ≡ asMove next (judgeShape space reached shape) ⌝ }
 {
     let kind = shape.kind;
-    let then = after(reached, kind, shape.size, shape.parts);
-    if !(shape.within & counts_within(then)) {
+    let counts = count(space, reached, kind, shape.size, shape.parts);
+    if !(shape.within & counts.within) {
         return Move::Stop(Fault::OutsideLimits);
     }
     if !(may_follow(kind, reached.phase)
         & parts_in_order(reached, kind, shape.parts, shape.rising)) {
         return Move::Stop(Fault::OutOfOrder);
     }
-    if !fits(space, then) {
+    if !counts.fits {
         return Move::Stop(Fault::NoSpace);
     }
+    let then = counts.then;
     Move::On(then, next)
 }

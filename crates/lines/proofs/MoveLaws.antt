@@ -8,7 +8,6 @@ use native.Mathlib.Omega.{arith}
 use lib.ListN.{length, drop, length-append, length-drop}
 use lib.Seq.{drop-drop, drop-append-seam}
 use Rattle.wellfounded.proofs.Tests.{first}
-use Rattle.tables.specs.declared.Fault.{Fault}
 use Rattle.tables.specs.declared.Fault.the-variants.{Malformed}
 use Rattle.format.specs.Forms.{Form, lineEnd, render}
 use Rattle.format.specs.Parse.{Reading, got, refused, andThen, readForm, readLine}
@@ -20,7 +19,8 @@ use Rattle.judging.specs.declared.reached.Reached.{Reached}
 use Rattle.judging.specs.declared.reached.Space.{Space}
 use Rattle.judging.specs.declared.reached.Shape.{Shape}
 use Rattle.judging.specs.declared.reached.Move.{Move}
-use Rattle.judging.specs.declared.reached.Move.the-variants.{On, Stop}
+use Rattle.judging.specs.declared.reached.Move.the-variants.{Stop}
+use Rattle.judging.specs.States.{fits}
 use Rattle.judging.specs.Judging.{maxBytes, numbersWithin, withinLimits, Step, on, stop, judgeForm}
 use Rattle.judging.specs.internal.Shapes.{shapeOf, judgeShape, asMove}
 use Rattle.judging.proofs.ShapeLaws.{shape-judged, parts-few}
@@ -61,9 +61,13 @@ module _ {s : Reached} {text : List ℕ} {at : ℕ} {line : Line} {written : For
   written-there e = holds-use (λ g end. drop at text ≡ render g ++ end) (form-written (drop at text)) e
 
   -- So that it may be judged.
-  pub judgeable : Judgeable s line
+  pub judgeable : {space : Space} → fits space s ≡ true → Judgeable space s line
   unfolding formed shapeOf
-  judgeable = record { counts = ready .counts; few = λ shape next e. step shape next (readForm (drop at text)) refl (sym (read .answered) ∙ e) }
+  judgeable fitting =
+      record {
+        fitted = record { limits = ready .counts; fitting = fitting };
+        few = λ shape next e. step shape next (readForm (drop at text)) refl (sym (read .answered) ∙ e);
+      }
     where
       step :
           (shape : Shape) (next : ℕ) (r : Reading Form) → readForm (drop at text) ≡ r → formed s text r ≡ Formed shape next →

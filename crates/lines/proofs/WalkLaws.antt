@@ -1,7 +1,7 @@
 -- Laws of the walk over a text: what holds at each line that it comes to, and what it answers where it ends.
 -- Assumes nothing.
 use Prim.Native.Nat.{ℕ, suc, _+_, _-_, _≤_, _<_}
-use mathlib.Core.Path.{_≡_, refl, sym, ap, _∙_}
+use mathlib.Core.Path.{_≡_, refl, sym, _∙_}
 use mathlib.Core.Bool.{true, false≢true}
 use mathlib.Core.List.{List, [], _∷_, _++_, append-assoc}
 use native.Mathlib.Omega.{arith}
@@ -19,20 +19,23 @@ use Rattle.judging.specs.declared.reached.Move.the-variants.{On, Stop}
 use Rattle.judging.specs.declared.reached.Judged.{Judged}
 use Rattle.judging.specs.declared.reached.Judged.the-variants.{Failed}
 use Rattle.judging.specs.LentTables.{Table}
-use Rattle.judging.specs.States.{start, after}
+use Rattle.judging.specs.States.{start, after, fits}
 use Rattle.judging.specs.Judging.{lines, Step, on, stop, judgeForm, continued, judgeLines, judgeText, maxBytes, formsFrom, formsOf}
 use Rattle.judging.specs.internal.Shapes.{asMove}
 use Rattle.judging.proofs.LineLaws.{line-formed, judge-line, judge-refused, forms-line}
-use Rattle.judging.proofs.StateLaws.{start-counts, after-counts, after-size, judge-on}
+use Rattle.judging.proofs.Counts.{start-fits}
+use Rattle.judging.proofs.StateLaws.{start-limits, after-counts, after-size, judge-on}
 use Rattle.forms.specs.Contents.{Contents}
 use Rattle.forms.specs.Entries.{entriesOf}
 use Rattle.forms.specs.internal.Stores.{store, storeForms}
 use Rattle.lines.specs.internal.Walks.{moveOf, Ready, goesOn, Moves, endedAt, isPassed, Walked}
 use Rattle.lines.proofs.MoveLaws.{rest-at}
 
--- The walk has come to an offset in some state: judging the rest from there is judging the text, and storing the forms of the rest is storing all.
+-- The walk has come to an offset in some state: what was counted has space, judging the rest from there is judging the text, and storing the
+-- forms of the rest is storing all.
 pub record Underway (text : List ℕ) (space : Space) (before : Contents) (s : Reached) (at : ℕ) (now : Contents) : Type 0 where
   pub ready : Ready text at s
+  pub fitting : fits space s ≡ true
   pub judged : judgeLines space s at (lines (drop at text)) ≡ judgeText space text
   pub stored : storeForms s (formsFrom s (lines (drop at text))) now ≡ storeForms start (formsOf text) before
   pub lengths : (table : Table) → length (now table) ≡ length (before table)
@@ -51,7 +54,8 @@ unfolding judgeText formsOf start
 walk-start text space before s l e =
     rw e
     record {
-      ready = record { inside = record { reached = omega arith; short = l }; counts = start-counts; atoms = omega arith };
+      ready = record { inside = record { reached = omega arith; short = l }; counts = start-limits; atoms = omega arith };
+      fitting = start-fits space;
       judged = rw (le-leb (length text) maxBytes l);
       stored = refl;
       lengths = λ table. refl;
@@ -106,6 +110,7 @@ module _ {text : List ℕ} {space : Space} {before : Contents} {s : Reached} {at
               counts = after-counts s f (k .0);
               atoms = after-size s f (w .ready .atoms) (k .0);
             };
+            fitting = rw (k .3) (k .2);
             judged = rw (after-line .1, after-line .0) (sym (judged-on e) ∙ w .judged);
             stored = rw (after-line .1, k .3) (sym stored-on ∙ w .stored);
             lengths = stored-lengths;

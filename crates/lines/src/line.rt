@@ -58,7 +58,7 @@ pub fn read_form(
 
 // What a line comes to in the state reached so far: its form with the byte that ends it, judged.
 pub fn judge_line(text: &[u8], line: Line, space: Space, reached: Reached) -> Move
-    requires { ⌜ Judgeable reached line ⌝ }
+    requires { ⌜ Judgeable space reached line ⌝ }
     ensures { λ r. ⌜ r ≡ lineMove space reached (now (text .entry)) line ⌝ }
 {
     let Line::Formed(shape, next) = line else {

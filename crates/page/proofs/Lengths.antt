@@ -1,4 +1,4 @@
--- How long a page is at most: `page-size`.
+-- How long a page is at most, and that none is empty: `page-size`, `page-some`.
 -- Assumes nothing.
 use Prim.Native.Nat.{ℕ, zero, suc, _+_, _*_, _≤_, _<_}
 use mathlib.Core.Path.{_≡_, refl, ap}
@@ -145,3 +145,14 @@ page-size true verdict rounds values levels small low even few short near =
         let l = length-4 (getD levels atom 0) (omega (arith, low atom)) in
         let line = length-atomLine atom (getD values atom 0) (getD levels atom 0) in
         omega arith
+
+-- Each ends with a verdict.
+verdict-some : (verdict : Verdict) → 1 ≤ length (verdictLine verdict)
+unfolding verdictLine
+verdict-some Accepted = omega arith
+verdict-some (Refused fault position) = simp length-append (omega arith)
+
+pub page-some : (made : Bool) (verdict : Verdict) (rounds : ℕ) (values levels : List ℕ) → 1 ≤ length (pageOf made verdict rounds values levels)
+unfolding pageOf
+page-some false verdict rounds values levels = verdict-some verdict
+page-some true verdict rounds values levels = simp length-append (omega (arith, verdict-some verdict))

@@ -12,7 +12,7 @@ use tables::Verdict;
 use tables::fault_number;
 use tables::sizes::MAX_ATOMS;
 
-// How long the longest page is: a line of rounds, one of at most 19 bytes for each atom, and the verdict.
+// A size that holds every page: a line of rounds, one of at most 19 bytes for each atom, and the verdict.
 pub const PAGE_SIZE: usize = 12 + (MAX_ATOMS * 19 + 19);
 
 // Puts one byte, if it is within the page.

@@ -21,15 +21,20 @@ use Rattle.outcome.specs.internal.Promises.{GivesOutcome}
 use Rattle.outcome.proofs.Bounds.{outcome-bounded}
 use Rattle.page.specs.Pages.{pageOf, pageSize}
 use Rattle.page.specs.internal.Putting.{Puts, Printable}
-use Rattle.page.proofs.Lengths.{page-size}
+use Rattle.page.proofs.Lengths.{page-size, page-some}
 use Rattle.report.specs.Reports.{isOpenState, printsAtoms, outcomePage, reportOf, Reported}
 
--- No report is longer than a page.
+-- No report is longer than a page,
 pub report-size : (text : List ℕ) → length (reportOf text) ≤ pageSize
 unfolding reportOf outcomePage
 report-size text =
     let b = outcome-bounded text in
     page-size _ _ _ _ _ (b .values) (λ k. omega (arith, b .levels k, b .rounds)) (b .alike) (b .few) (b .rounds) (b .position)
+
+-- and none is empty, so that the length 0 tells of a page that was too short.
+pub report-some : (text : List ℕ) → 1 ≤ length (reportOf text)
+unfolding reportOf outcomePage
+report-some text = page-some _ _ _ _ _
 
 -- In a shorter one nothing is written.
 pub report-short : (text page : List ℕ) → length page < pageSize → Reported text page 0 page

@@ -2,7 +2,7 @@
 
 use super::families::{Books, SIZES};
 use super::timing::{compare, Patience, Times};
-use crate::calls::{Calls, TablesToFill};
+use crate::calls::{Calls, TablesToFill, PAGE_SIZE};
 
 #[derive(Clone, Copy, PartialEq, Eq, Debug)]
 pub enum Measured {
@@ -11,11 +11,18 @@ pub enum Measured {
     Evaluate,
     VerdictOnClaim,
     VerdictOnOpen,
+    ReportOnOpen,
 }
 
 impl Measured {
-    pub const ALL: [Measured; 5] =
-        [Measured::Read, Measured::Check, Measured::Evaluate, Measured::VerdictOnClaim, Measured::VerdictOnOpen];
+    pub const ALL: [Measured; 6] = [
+        Measured::Read,
+        Measured::Check,
+        Measured::Evaluate,
+        Measured::VerdictOnClaim,
+        Measured::VerdictOnOpen,
+        Measured::ReportOnOpen,
+    ];
 
     pub fn name(self) -> &'static str {
         match self {
@@ -24,6 +31,7 @@ impl Measured {
             Measured::Evaluate => "battenplum_evaluate",
             Measured::VerdictOnClaim => "battenplum_verdict on a claim",
             Measured::VerdictOnOpen => "battenplum_verdict on an open form",
+            Measured::ReportOnOpen => "battenplum_report on an open form",
         }
     }
 
@@ -33,7 +41,7 @@ impl Measured {
             Measured::Read | Measured::VerdictOnClaim => "byte",
             Measured::Check => "literal",
             Measured::Evaluate => "literal and round",
-            Measured::VerdictOnOpen => "byte and round",
+            Measured::VerdictOnOpen | Measured::ReportOnOpen => "byte and round",
         }
     }
 
@@ -44,7 +52,9 @@ impl Measured {
             Measured::Read | Measured::VerdictOnClaim => books.texts.iter().map(|text| text.claim.len()).sum(),
             Measured::Check => books.samples.iter().map(|sample| sample.book.entries()).sum(),
             Measured::Evaluate => books.samples.iter().map(|sample| sample.book.entries() * rounds(sample.rounds)).sum(),
-            Measured::VerdictOnOpen => books.texts.iter().map(|text| text.open.len() * rounds(text.rounds)).sum(),
+            Measured::VerdictOnOpen | Measured::ReportOnOpen => {
+                books.texts.iter().map(|text| text.open.len() * rounds(text.rounds)).sum()
+            }
         };
         units as f64
     }
@@ -68,11 +78,12 @@ impl Measured {
             }
             Measured::VerdictOnClaim => calls.verdict(&texts.claim).into(),
             Measured::VerdictOnOpen => calls.verdict(&texts.open).into(),
+            Measured::ReportOnOpen => calls.report(&texts.open, &mut lent.page) as u64,
         }
     }
 }
 
-/// Tables of full size and the maker's slices, as a host would keep them.
+/// Tables of full size, the maker's slices and a page, as a host would keep them.
 pub struct Lent {
     rules: Vec<u16>,
     literals: Vec<u16>,
@@ -83,6 +94,7 @@ pub struct Lent {
     values: Vec<u8>,
     levels: Vec<u16>,
     work: Vec<u16>,
+    page: Vec<u8>,
 }
 
 impl Default for Lent {
@@ -97,6 +109,7 @@ impl Default for Lent {
             values: vec![0; 1_024],
             levels: vec![0; 1_024],
             work: vec![0; 1_024],
+            page: vec![0; PAGE_SIZE],
         }
     }
 }

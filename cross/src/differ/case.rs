@@ -23,6 +23,11 @@ pub enum Case {
     Verdict {
         text: Vec<u8>,
     },
+    /// The report into a page of some length.
+    Report {
+        text: Vec<u8>,
+        page: usize,
+    },
     Read {
         text: Vec<u8>,
         lent: Lengths,
@@ -38,8 +43,8 @@ pub enum Case {
         open_values: Vec<u8>,
         written: Written,
     },
-    /// The program: what it prints for a text.
-    Report {
+    /// What the program prints for a text.
+    Program {
         text: Vec<u8>,
     },
 }
@@ -48,10 +53,11 @@ impl Case {
     pub fn call(&self) -> &'static str {
         match self {
             Case::Verdict { .. } => "verdict",
+            Case::Report { .. } => "report",
             Case::Read { .. } => "read",
             Case::Check { .. } => "check",
             Case::Evaluate { .. } => "evaluate",
-            Case::Report { .. } => "report",
+            Case::Program { .. } => "the program",
         }
     }
 
@@ -68,8 +74,12 @@ impl Case {
         Case::Verdict { text: text.to_vec() }
     }
 
-    pub fn report(text: &[u8]) -> Case {
-        Case::Report { text: text.to_vec() }
+    pub fn program(text: &[u8]) -> Case {
+        Case::Program { text: text.to_vec() }
+    }
+
+    pub fn report(text: &[u8], page: usize) -> Case {
+        Case::Report { text: text.to_vec(), page }
     }
 
     /// A reading into tables of the named lengths.
@@ -82,7 +92,11 @@ impl Case {
 impl Display for Case {
     fn fmt(&self, out: &mut Formatter) -> Result {
         match self {
-            Case::Verdict { text } | Case::Report { text } => show_text(out, text),
+            Case::Verdict { text } | Case::Program { text } => show_text(out, text),
+            Case::Report { text, page } => {
+                show_text(out, text)?;
+                writeln!(out, "a page of {page} bytes")
+            }
             Case::Read { text, lent, answer } => {
                 show_text(out, text)?;
                 writeln!(out, "lent: {lent:?}, answer: {answer}")

@@ -38,6 +38,7 @@ struct SlicePages {
     levels: Pages,
     work: Pages,
     answer: Pages,
+    page: Pages,
 }
 
 /// What the slices that a reading fills hold.
@@ -112,6 +113,15 @@ impl Calls for GuardedLibrary {
 
     fn verdict(&self, text: &[u8]) -> u32 {
         self.at_both_edges(|pages, edge| Library.verdict(pages.text.lend_to_read(text, edge)))
+    }
+
+    fn report(&self, text: &[u8], page: &mut [u8]) -> usize {
+        let (length, written) = self.at_both_edges(|pages, edge| {
+            let (text, page) = (pages.text.lend_to_read(text, edge), pages.page.lend_to_write(page, edge));
+            (Library.report(text, page), page.to_vec())
+        });
+        page.copy_from_slice(&written);
+        length
     }
 
     fn check(&self, tables: Tables, values: &[u8], levels: &[u16]) -> u32 {

@@ -85,6 +85,7 @@ pub struct Lending {
     pub levels: Buffer<u16>,
     pub work: Buffer<u16>,
     pub answer: Buffer<u32>,
+    pub page: Buffer<u8>,
 }
 
 impl Lending {
@@ -93,7 +94,10 @@ impl Lending {
         let random = &mut Random::new(noise);
         let nothing = Lending::nothing(random);
         match case {
-            Case::Verdict { text } | Case::Report { text } => Lending { text: Buffer::holding(text, random), ..nothing },
+            Case::Verdict { text } | Case::Program { text } => Lending { text: Buffer::holding(text, random), ..nothing },
+            Case::Report { text, page } => {
+                Lending { text: Buffer::holding(text, random), page: Buffer::arbitrary(*page, random), ..nothing }
+            }
             Case::Read { text, lent, answer } => Lending {
                 text: Buffer::holding(text, random),
                 tables: TableBuffers::arbitrary(lent, random),
@@ -128,6 +132,7 @@ impl Lending {
             levels: Buffer::arbitrary(0, random),
             work: Buffer::arbitrary(0, random),
             answer: Buffer::arbitrary(0, random),
+            page: Buffer::arbitrary(0, random),
         }
     }
 
@@ -155,6 +160,7 @@ impl Lending {
             ("levels", self.levels.first_difference(&found.levels)),
             ("work", self.work.first_difference(&found.work)),
             ("answer", self.answer.first_difference(&found.answer)),
+            ("page", self.page.first_difference(&found.page)),
         ];
         let all = self.tables.differences(&found.tables).into_iter().chain(others);
         all.into_iter().find_map(|(name, difference)| difference.map(|place| format!("{name}{place}")))

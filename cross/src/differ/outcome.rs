@@ -3,6 +3,7 @@
 use super::{case::Case, lending::Lending};
 use crate::{
     book::{Made, Read, State, Verdict},
+    calls::PAGE_SIZE,
     solver::Solver,
 };
 use std::fmt::{Display, Formatter, Result};
@@ -15,7 +16,9 @@ pub enum Answer {
     Verdict(u32),
     /// Rounds and verdict, as the C call on an evaluation packs them.
     Made(u64),
-    Page(Vec<u8>),
+    Printed(Vec<u8>),
+    /// The length of a report.
+    Length(usize),
 }
 
 impl Answer {
@@ -25,7 +28,7 @@ impl Answer {
             Answer::Verdict(NO_ANSWER) => None,
             Answer::Verdict(packed) => Some(Verdict::unpacked(*packed)),
             Answer::Made(packed) => Some(Verdict::unpacked(*packed as u32)),
-            Answer::Page(_) => None,
+            Answer::Printed(_) | Answer::Length(_) => None,
         }
     }
 }
@@ -39,7 +42,8 @@ impl Display for Answer {
                 show_verdict(out, *packed as u32)?;
                 write!(out, ", rounds {}", packed >> 32)
             }
-            Answer::Page(page) => write!(out, "the page {}", page.escape_ascii()),
+            Answer::Printed(page) => write!(out, "the page {}", page.escape_ascii()),
+            Answer::Length(length) => write!(out, "the length {length}"),
         }
     }
 }
@@ -72,7 +76,13 @@ pub fn expected(solver: &Solver, case: &Case, before: &Lending) -> Outcome {
     let mut after = before.clone();
     let answer = match case {
         Case::Verdict { text } => Answer::Verdict(solver.verdict(text).packed()),
-        Case::Report { text } => Answer::Page(solver.report(text)),
+        Case::Program { text } => Answer::Printed(solver.report(text)),
+        Case::Report { page, .. } if *page < PAGE_SIZE => Answer::Length(0),
+        Case::Report { text, .. } => {
+            let report = solver.report(text);
+            after.page.write(&report);
+            Answer::Length(report.len())
+        }
         Case::Check { book, values, levels } => Answer::Verdict(solver.check(book, values, levels).packed()),
         Case::Read { answer, .. } if *answer != 7 => Answer::Verdict(NO_ANSWER),
         Case::Read { text, lent, .. } => after_reading(&solver.read(text, lent), &mut after),

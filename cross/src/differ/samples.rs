@@ -44,7 +44,7 @@ impl Session<'_> {
     pub fn sample(&mut self, sample: &Sample) -> Compared {
         self.text_and_page(&sample.text)?;
         let printed = self.solver.report(&sample.text);
-        self.demand(sample.agrees(&printed), &Case::report(&sample.text), || {
+        self.demand(sample.agrees(&printed), &Case::program(&sample.text), || {
             format!("{}: {:?} is stated, solved {}", sample.name, stated(&sample.prints), printed.escape_ascii())
         })
     }

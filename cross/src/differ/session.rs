@@ -10,6 +10,7 @@ use super::{
 use crate::random::Random;
 use crate::{
     book::{Lengths, Read, State, Verdict},
+    calls::PAGE_SIZE,
     solver::Solver,
 };
 use std::collections::BTreeMap;
@@ -69,7 +70,7 @@ impl<'a> Session<'a> {
         self.difference(case, &before, &expected(&self.solver, case, &before))
     }
 
-    /// All calls on a text: the verdict, the reading into tables of full size, and the check or the maker on what was read.
+    /// The calls on a text but for its report: the verdict, the reading into tables of full size, and the check or the maker on what was read.
     pub fn text(&mut self, text: &[u8]) -> Compared {
         self.compare(Case::verdict(text))?;
         self.compare(Case::read(text, Lengths::FULL))?;
@@ -88,7 +89,19 @@ impl<'a> Session<'a> {
     /// All calls on a text, and what the program prints for it.
     pub fn text_and_page(&mut self, text: &[u8]) -> Compared {
         self.text(text)?;
-        self.compare(Case::report(text))
+        self.page(text)
+    }
+
+    /// What the program prints for a text, and the report that the call writes.
+    pub fn page(&mut self, text: &[u8]) -> Compared {
+        self.compare(Case::program(text))?;
+        self.report(text)
+    }
+
+    /// The report of a text into pages of many lengths: none, just as long as the report, one byte less than is needed, enough, and more.
+    pub fn report(&mut self, text: &[u8]) -> Compared {
+        let (exact, more) = (self.solver.report(text).len(), PAGE_SIZE + self.random.below(100));
+        [0, exact, PAGE_SIZE - 1, PAGE_SIZE, more].iter().try_for_each(|&page| self.compare(Case::report(text, page)))
     }
 
     /// Demands something of what the solver says. All sides were found to say the same, so that it is demanded of them too; a solver

@@ -31,7 +31,7 @@ impl Side<'_> {
         let mut after = before.clone();
         let answer = match (self, case) {
             (Side::Calls(calls), case) => answer_of_call(*calls, case, &mut after)?,
-            (Side::Program(program), Case::Report { text }) => Answer::Page(printed(program, text)),
+            (Side::Program(program), Case::Program { text }) => Answer::Printed(printed(program, text)),
             (Side::Program(_), _) => return None,
         };
         Some(Outcome { answer, after })
@@ -41,6 +41,7 @@ impl Side<'_> {
 fn answer_of_call(calls: &dyn Calls, case: &Case, lent: &mut Lending) -> Option<Answer> {
     match case {
         Case::Verdict { .. } => Some(Answer::Verdict(calls.verdict(lent.text.lent()))),
+        Case::Report { .. } => Some(Answer::Length(calls.report(lent.text.lent(), lent.page.lent_mut()))),
         Case::Read { .. } => {
             let (text, tables, answer) = lent.to_fill();
             Some(Answer::Verdict(calls.read(text, tables, answer)))
@@ -54,7 +55,7 @@ fn answer_of_call(calls: &dyn Calls, case: &Case, lent: &mut Lending) -> Option<
             let (values, levels, work) = (lent.values.lent_mut(), lent.levels.lent_mut(), lent.work.lent_mut());
             Some(Answer::Made(calls.evaluate(tables, lent.open_values.lent(), values, levels, work)))
         }
-        Case::Report { .. } => None,
+        Case::Program { .. } => None,
     }
 }
 

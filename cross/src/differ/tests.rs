@@ -12,7 +12,7 @@ use super::{
 use crate::random::Random;
 use crate::{
     book::{Book, Lengths},
-    calls::{Calls, Tables, TablesToFill},
+    calls::{Calls, Tables, TablesToFill, PAGE_SIZE},
     fast::Fast,
     solver::Solver,
 };
@@ -29,6 +29,12 @@ impl Calls for OneEntryMore {
 
     fn verdict(&self, text: &[u8]) -> u32 {
         Fast.verdict(text)
+    }
+
+    fn report(&self, text: &[u8], page: &mut [u8]) -> usize {
+        let length = Fast.report(text, page);
+        page[length] = page[length].wrapping_add(1);
+        length
     }
 
     fn check(&self, tables: Tables, values: &[u8], levels: &[u16]) -> u32 {
@@ -57,6 +63,8 @@ fn an_entry_too_many_is_noticed() {
     assert!(session(&Fast).text(TEXT).is_ok());
     let read = session(&OneEntryMore).compare(Case::read(TEXT, Lengths::FULL)).expect_err("a level was written");
     assert!(read.what.contains("levels[1023] of 1024"), "{}", read.what);
+    let page = session(&OneEntryMore).compare(Case::report(TEXT, PAGE_SIZE)).expect_err("a byte after the report was written");
+    assert!(page.what.contains("page[") && page.what.contains(&format!("of {PAGE_SIZE}")), "{}", page.what);
     let book = Book { n: 1, ..Book::default() };
     let made = session(&OneEntryMore).compare(Case::evaluate(&book, &[0])).expect_err("work was written");
     assert!(made.what.contains("work[0] of 1 is 1 instead of 0"), "{}", made.what);

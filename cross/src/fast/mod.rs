@@ -1,4 +1,4 @@
-//! The four calls in plain Rust, written for speed: what the benchmarks measure the proved library against.
+//! The five calls in plain Rust, written for speed: what the benchmarks measure the proved library against.
 //!
 //! Nothing is allocated and nothing is unsafe. The check is linear, and the maker goes by rounds over all rules, as the library does,
 //! so that a ratio of times compares code with code. The reader reads a text once, into tables of its own, and copies the used parts
@@ -8,6 +8,7 @@ mod check;
 mod evaluate;
 mod faults;
 mod lines;
+mod page;
 mod reader;
 mod satisfaction;
 mod scan;
@@ -15,7 +16,8 @@ mod scan;
 mod tests;
 
 use crate::book::{Lengths, State, Verdict};
-use crate::calls::{Calls, Tables, TablesToFill};
+use crate::calls::{Calls, Tables, TablesToFill, PAGE_SIZE};
+use page::Made;
 use reader::{FullTables, Used};
 
 /// What the reader answers if `answer` has not seven places.
@@ -31,10 +33,21 @@ impl Calls for Fast {
     fn verdict(&self, text: &[u8]) -> u32 {
         let mut tables = FullTables::new();
         let verdict = match reader::read(text, &Lengths::FULL, &mut tables) {
-            Ok(used) => outcome(&tables, &used),
+            Ok(used) => outcome(&tables, &used, |_, verdict| verdict),
             Err(refused) => refused,
         };
         verdict.packed()
+    }
+
+    fn report(&self, text: &[u8], page: &mut [u8]) -> usize {
+        if page.len() < PAGE_SIZE {
+            return 0;
+        }
+        let mut tables = FullTables::new();
+        match reader::read(text, &Lengths::FULL, &mut tables) {
+            Ok(used) => outcome(&tables, &used, |made, verdict| page::print(page, made, verdict)),
+            Err(refused) => page::print(page, None, refused),
+        }
     }
 
     fn check(&self, tables: Tables, values: &[u8], levels: &[u16]) -> u32 {
@@ -65,15 +78,17 @@ impl Calls for Fast {
     }
 }
 
-/// The verdict on an accepted text: its claim checked, or its open form evaluated.
-fn outcome(tables: &FullTables, used: &Used) -> Verdict {
+/// What an accepted text comes to: its claim checked, or its open form evaluated, with what was made unless that was refused.
+fn outcome<T>(tables: &FullTables, used: &Used, tell: impl FnOnce(Option<Made>, Verdict) -> T) -> T {
     let n = used.n;
     match used.state {
-        State::Claim => check::check(tables.used(used), &tables.values[..n], &tables.levels[..n]),
+        State::Claim => tell(None, check::check(tables.used(used), &tables.values[..n], &tables.levels[..n])),
         _ => {
             let (mut values, mut levels, mut work) = ([0; 1_024], [0; 1_024], [0; 1_024]);
-            let (made, stages) = (&mut values[..n], &mut levels[..n]);
-            evaluate::evaluate(tables.used(used), &tables.values[..n], made, stages, &mut work[..n]).1
+            let (values, levels) = (&mut values[..n], &mut levels[..n]);
+            let (rounds, verdict) = evaluate::evaluate(tables.used(used), &tables.values[..n], values, levels, &mut work[..n]);
+            let made = matches!(verdict.number, 0 | 25..=27).then_some(Made { rounds, values, levels });
+            tell(made, verdict)
         }
     }
 }

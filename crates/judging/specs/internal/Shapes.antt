@@ -1,5 +1,6 @@
 -- The shape of a form: what judging needs of it. A shape is judged as its form is.
 use Prim.Native.Nat.{ℕ}
+use mathlib.Core.Path.{_≡_}
 use mathlib.Core.Bool.{Bool, true, cond, _&&_, _||_}
 use mathlib.Core.List.{List, map}
 use lib.Dec.{eqb}
@@ -13,6 +14,7 @@ use Rattle.numerals.specs.internal.Offsets.{capped}
 use Rattle.judging.specs.declared.reached.Reached.{Reached}
 use Rattle.judging.specs.declared.reached.Space.{Space}
 use Rattle.judging.specs.declared.reached.Shape.{Shape}
+use Rattle.judging.specs.declared.reached.Counted.{Counted}
 use Rattle.judging.specs.declared.reached.Move.{Move}
 use Rattle.judging.specs.declared.reached.Move.the-variants.{On, Stop}
 use Rattle.judging.specs.States.{advanced, countsWithin, fits}
@@ -52,6 +54,17 @@ judgeShape space s shape =
     (cond (fits space (reachedBy s shape)) (on (reachedBy s shape)) (stop NoSpace))
     (stop OutOfOrder))
     (stop OutsideLimits)
+
+-- All that was counted so far is within the limits of a book and has space in the lent tables.
+pub record CountsFit (space : Space) (s : Reached) : Type 0 where
+  pub limits : countsWithin s ≡ true
+  pub fitting : fits space s ≡ true
+
+-- What counting a form comes to: the state after it, and whether all is within the limits and has space then.
+pub record CountedAs (space : Space) (then : Reached) (answer : Counted) : Type 0 where
+  pub state : answer .then ≡ then
+  pub limits : answer .within ≡ countsWithin then
+  pub fitting : answer .fits ≡ fits space then
 
 -- A line judged, with the offset after it.
 unfoldable pub asMove : ℕ → Step → Move

@@ -43,7 +43,8 @@ read-form-requires c κs = c .before .before .before .before .before .before .be
 judge-line-requires : tie.Need-judge-line-requires Inv-loop μ-loop
 judge-line-requires c κs =
     let here = c .before .before .before .before .before .before .before .before .before .before .before .before .before .before in
-    judgeable (turn here .before .loop .inv .ready) (here .read-form .ensures)
+    let inv = turn here .before .loop .inv in
+    judgeable (inv .ready) (here .read-form .ensures) (inv .fitting)
 
 enum-known-then : tie.Need-enum-known-then Inv-loop μ-loop
 enum-known-then c = search needs

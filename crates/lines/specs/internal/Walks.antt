@@ -19,7 +19,7 @@ use Rattle.judging.specs.declared.reached.Judged.{Judged}
 use Rattle.judging.specs.declared.reached.Judged.the-variants.{Passed, Failed}
 use Rattle.judging.specs.States.{openStood, start, countsWithin}
 use Rattle.judging.specs.Judging.{maxBytes, judgeForm, judgeText, formsOf}
-use Rattle.judging.specs.internal.Shapes.{judgeShape, asMove}
+use Rattle.judging.specs.internal.Shapes.{judgeShape, CountsFit, asMove}
 use Rattle.lists.specs.internal.Lists.{Inside}
 use Rattle.forms.specs.declared.Line.{Line}
 use Rattle.forms.specs.declared.Line.the-variants.{Formed, NoForm}
@@ -33,9 +33,9 @@ pub record Ready (text : List ℕ) (at : ℕ) (s : Reached) : Type 0 where
   pub counts : countsWithin s ≡ true
   pub atoms : s .size ≤ maxAtoms
 
--- A line may be judged: the counts reached so far are within their limits, and a form has no more parts than a text has bytes.
-pub record Judgeable (s : Reached) (line : Line) : Type 0 where
-  pub counts : countsWithin s ≡ true
+-- A line may be judged: what was counted so far is within its limits and has space, and a form has no more parts than a text may have bytes.
+pub record Judgeable (space : Space) (s : Reached) (line : Line) : Type 0 where
+  pub fitted : CountsFit space s
   pub few : (shape : Shape) (next : ℕ) → line ≡ Formed shape next → shape .parts ≤ maxBytes
 
 -- What a line comes to, from what was read of it: its form must be ended by a byte, and is judged by its shape.

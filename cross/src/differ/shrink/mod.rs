@@ -33,7 +33,8 @@ pub fn smallest(case: Case, differs: impl Fn(&Case) -> bool) -> Case {
 fn smaller(case: &Case) -> Smaller<'_, Case> {
     match case {
         Case::Verdict { text } => Box::new(texts::smaller(text).map(|text| Case::Verdict { text })),
-        Case::Report { text } => Box::new(texts::smaller(text).map(|text| Case::Report { text })),
+        Case::Program { text } => Box::new(texts::smaller(text).map(|text| Case::Program { text })),
+        Case::Report { text, page } => Box::new(texts::smaller(text).map(|text| Case::Report { text, page: *page })),
         Case::Read { text, lent, answer } => {
             let texts = texts::smaller(text).map(|text| Case::Read { text, lent: *lent, answer: *answer });
             Box::new(texts.chain(fuller(lent).map(|lent| Case::Read { text: text.clone(), lent, answer: *answer })))

@@ -34,7 +34,7 @@ judge-shape-requires : tie.Need-judge-shape-requires
 judge-shape-requires c κs =
     let line = c .before .before .before in
     let start = line .before .before .before in
-    (start .pre .counts, start .pre .few _ _ (line .line .given .1))
+    (start .pre .fitted, start .pre .few _ _ (line .line .given .1))
 
 returns-3 : tie.Need-returns-3
 unfolding lineMove
