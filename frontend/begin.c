@@ -60,6 +60,42 @@ static bool small_word(const line *l, size_t at, char *word, bool *capitals) {
     return i > 0;
 }
 
+/* Whether the rest of the line, which may be empty, is how `whole` begins. */
+static bool may_become(const line *l, size_t at, const char *whole) {
+    size_t length = l->length - at;
+
+    return length < strlen(whole) && memcmp(l->bytes + at, whole, length) == 0;
+}
+
+/* The kind that a word may become, if there is only one. Sets `any` if there is one or more. */
+static enum kind kind_begun(const line *l, size_t at, bool *any) {
+    enum kind found = KIND_NONE;
+    enum kind kind;
+
+    *any = false;
+    for (kind = KIND_ATOMS; kind < KINDS; kind++) {
+        if (!may_become(l, at, kinds[kind].word)) continue;
+        found = *any ? KIND_NONE : kind;
+        *any = true;
+    }
+    return found;
+}
+
+/* Words that are nearer to a form than their letters: what a defined line does is called declaring. */
+static enum kind kind_called(const char *word) {
+    return strcmp(word, "declare") == 0 || strcmp(word, "declared") == 0 ? KIND_DEFINED : KIND_NONE;
+}
+
+/* The kind that is meant by a word that is none: by what it is called, by how its word begins, or by the nearest word. */
+static enum kind kind_meant(const char *word) {
+    line whole = {(const uint8_t *)word, strlen(word), true};
+    enum kind kind = kind_called(word);
+    bool any;
+
+    if (kind == KIND_NONE) kind = kind_begun(&whole, 0, &any);
+    return kind != KIND_NONE ? kind : nearest(word);
+}
+
 static void say_unknown_word(spot *s) {
     char word[WORD_MOST + 1];
     bool capitals;
@@ -73,7 +109,7 @@ static void say_unknown_word(spot *s) {
             s->plain = true;
             return;
         }
-        kind = nearest(word);
+        kind = kind_meant(word);
     }
     say(s->said, "there is no form ");
     say_piece(s, 1);
@@ -138,27 +174,6 @@ bool say_after(spot *s) {
         say(s->said, " stands after the form, at column %zu", at + 1);
     }
     return true;
-}
-
-/* Whether the rest of the line, which may be empty, is how `whole` begins. */
-static bool may_become(const line *l, size_t at, const char *whole) {
-    size_t length = l->length - at;
-
-    return length < strlen(whole) && memcmp(l->bytes + at, whole, length) == 0;
-}
-
-/* The kind that a word may become, if there is only one. Sets `any` if there is one or more. */
-static enum kind kind_begun(const line *l, size_t at, bool *any) {
-    enum kind found = KIND_NONE;
-    enum kind kind;
-
-    *any = false;
-    for (kind = KIND_ATOMS; kind < KINDS; kind++) {
-        if (!may_become(l, at, kinds[kind].word)) continue;
-        found = *any ? KIND_NONE : kind;
-        *any = true;
-    }
-    return found;
 }
 
 bool say_broken(spot *s) {

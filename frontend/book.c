@@ -2,6 +2,14 @@
 
 #include <string.h>
 
+static size_t count_marks(const battenplum_tables *tables) {
+    size_t count = 0;
+    size_t atom;
+
+    for (atom = 0; atom < tables->marks_len; atom++) count += tables->marks[atom];
+    return count;
+}
+
 void book_judge(book *b) {
     uint32_t verdict = battenplum_verdict(b->text, b->length);
 
@@ -11,6 +19,7 @@ void book_judge(book *b) {
     memset(b->made_levels, 0, sizeof b->made_levels);
     if (battenplum_read_tables(b->text, b->length, &b->storage, &b->tables, &b->state) != BATTENPLUM_ACCEPTED)
         b->state = BATTENPLUM_STATE_NONE;
+    b->declared = count_marks(&b->tables);
     b->values = b->storage.values;
     b->levels = b->storage.levels;
     if (b->state == BATTENPLUM_STATE_OPEN) {
@@ -47,24 +56,26 @@ size_t clause_count(const book *b) { return b->tables.clauses_len / 2; }
 
 size_t load_count(const book *b) { return b->tables.loads_len / 4; }
 
-/* The atoms line is line 1. */
+/* The atoms line is line 1, and a defined line the next. */
+static size_t first_row_line(const book *b) { return b->declared > 0 ? DEFINED_LINE + 1 : 2; }
+
 row rule_row(const book *b, size_t rule) {
-    row r = {2 + rule, b->tables.rules[3 * rule + 1], b->tables.rules[3 * rule + 2]};
+    row r = {first_row_line(b) + rule, b->tables.rules[3 * rule + 1], b->tables.rules[3 * rule + 2]};
     return r;
 }
 
 row clause_row(const book *b, size_t clause) {
-    row r = {2 + rule_count(b) + clause, b->tables.clauses[2 * clause], b->tables.clauses[2 * clause + 1]};
+    row r = {first_row_line(b) + rule_count(b) + clause, b->tables.clauses[2 * clause], b->tables.clauses[2 * clause + 1]};
     return r;
 }
 
 row load_row(const book *b, size_t load) {
     const int32_t *entries = b->tables.loads + 4 * load;
-    row r = {2 + rule_count(b) + clause_count(b) + load, (size_t)entries[2], (size_t)entries[3]};
+    row r = {first_row_line(b) + rule_count(b) + clause_count(b) + load, (size_t)entries[2], (size_t)entries[3]};
     return r;
 }
 
-size_t state_line(const book *b) { return 2 + rule_count(b) + clause_count(b) + load_count(b); }
+size_t state_line(const book *b) { return first_row_line(b) + rule_count(b) + clause_count(b) + load_count(b); }
 
 size_t rule_head(const book *b, size_t rule) { return b->tables.rules[3 * rule]; }
 
@@ -75,7 +86,9 @@ size_t first_rule(const book *b, size_t atom) {
     return rule;
 }
 
-bool is_defined(const book *b, size_t atom) { return first_rule(b, atom) < rule_count(b); }
+bool heads_rule(const book *b, size_t atom) { return first_rule(b, atom) < rule_count(b); }
+
+bool is_defined(const book *b, size_t atom) { return (atom < b->tables.marks_len && b->tables.marks[atom] == 1) || heads_rule(b, atom); }
 
 bool literal_is(const book *b, uint16_t literal, unsigned value) {
     unsigned negated = literal % 2u;

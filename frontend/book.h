@@ -11,6 +11,9 @@
 /* Room for the longest text and one byte, so that a longer text is seen to be too long. */
 #define BOOK_ROOM (BATTENPLUM_TEXT_MAX + 1)
 
+/* The line of a defined line, in a book that has one. */
+#define DEFINED_LINE 2
+
 typedef struct book {
     const char *name;
     uint8_t text[BOOK_ROOM];
@@ -20,6 +23,7 @@ typedef struct book {
     uint32_t state;    /* how the text ended; BATTENPLUM_STATE_NONE if the reader refuses it */
     battenplum_tables tables;
     battenplum_storage storage;
+    size_t declared; /* how many atoms a defined line names; 0 if there is none */
     /* The claim's values and levels; of an open book the model's, which are there for the numbers 0, 25, 26 and 27. */
     const uint8_t *values;
     const uint16_t *levels;
@@ -35,7 +39,7 @@ void book_judge(book *b);
 line line_from(const book *b, size_t offset);
 size_t line_number(const book *b, size_t offset);
 
-/* Rows in the tables, of a text that the reader accepts. Each stands on a line of its own, after the atoms line. */
+/* Rows in the tables, of a text that the reader accepts. Each stands on a line of its own, after the atoms line and the defined line. */
 typedef struct row {
     size_t line;
     size_t start;
@@ -53,7 +57,8 @@ size_t rule_head(const book *b, size_t rule);
 
 /* The first rule with a head, or rule_count if there is none. */
 size_t first_rule(const book *b, size_t atom);
-bool is_defined(const book *b, size_t atom);
+bool heads_rule(const book *b, size_t atom);
+bool is_defined(const book *b, size_t atom); /* declared, or heads a rule */
 
 /* Whether a literal has a value, 1 for true and 0 for false. An undecided one has neither. */
 bool literal_is(const book *b, uint16_t literal, unsigned value);

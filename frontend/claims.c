@@ -10,6 +10,11 @@ static size_t place_of(const book *b, size_t atom) {
     return place;
 }
 
+/* Of an atom that is defined and heads no rule. */
+static void say_withdrawn(words *w, const char *which) {
+    say(w, "%s is declared defined (line %d) and heads no rule, so it is false", which, DEFINED_LINE);
+}
+
 static void say_value(const book *b, const facts *names, explanation *e) {
     size_t atom = b->position;
 
@@ -22,7 +27,13 @@ static void say_value(const book *b, const facts *names, explanation *e) {
     }
     say(&e->said, "place %zu of this open line names ", place_of(b, atom));
     say_atom(&e->said, names, atom);
-    say(&e->said, ", which heads a rule (line %zu); only atoms that head no rule are open", rule_row(b, first_rule(b, atom)).line);
+    if (heads_rule(b, atom)) {
+        say(&e->said, ", which heads a rule (line %zu); an atom that heads a rule is not open", rule_row(b, first_rule(b, atom)).line);
+        say(&e->said, ", so take it out of this line");
+        return;
+    }
+    say_withdrawn(&e->said, ", which");
+    say(&e->said, "; take it out of this line, or, if people set it, out of the defined line");
 }
 
 static size_t defined_count(const book *b) {
@@ -41,9 +52,14 @@ static void say_level(const book *b, const facts *names, explanation *e) {
     say(&e->said, "pair %zu, of ", atom + 1);
     say_atom(&e->said, names, atom);
     say(&e->said, ", has the level %u; ", b->levels[atom]);
-    if (!is_defined(b, atom)) say(&e->said, "the atom heads no rule, so its level is 0");
-    else if (count == 1) say(&e->said, "the atom heads a rule, so its level is 1, as no other atom heads one");
-    else say(&e->said, "the atom heads a rule, so its level is from 1 to %zu, as %zu atoms head rules", count, count);
+    if (!is_defined(b, atom)) {
+        say(&e->said, "the atom is open (it heads no rule and is not declared), so its level is 0");
+        return;
+    }
+    if (heads_rule(b, atom)) say(&e->said, "the atom heads a rule");
+    else say(&e->said, "the atom is declared defined (line %d)", DEFINED_LINE);
+    if (count == 1) say(&e->said, ", so its level is 1, as no other atom is defined");
+    else say(&e->said, ", so its level is from 1 to %zu, as %zu atoms are defined", count, count);
 }
 
 /* The first literal of a rule that is not true, or the row's count. */
@@ -115,6 +131,10 @@ static void say_unsupported(const book *b, const facts *names, explanation *e) {
     e->line = state_line(b);
     say_atom(&e->said, names, atom);
     say(&e->said, " is claimed true at level %u, and ", b->levels[atom]);
+    if (!heads_rule(b, atom)) {
+        say_withdrawn(&e->said, "it");
+        return;
+    }
     say_no_rule(b, &e->said, atom);
     say(&e->said, " with each defined atom at a lower level");
     say_why_not(b, names, &e->said, rule_to_speak_of(b, atom), atom);

@@ -6,8 +6,9 @@
 #define NUMERAL_MOST 10000000u
 
 const kind_words kinds[KINDS] = {
-    {"", "a line", "(atoms N), (rule H L ...), (clause L ...), (load LO HI (M L) ...), (open A ...) or (claim (V K) ...)"},
+    {"", "a line", "(atoms N), (defined A ...), (rule H L ...), (clause L ...), (load LO HI (M L) ...), (open A ...) or (claim (V K) ...)"},
     {"atoms", "the atoms line", "(atoms N)"},
+    {"defined", "a defined line", "(defined A ...)"},
     {"rule", "a rule", "(rule H L ...)"},
     {"clause", "a clause", "(clause L ...)"},
     {"load", "a load line", "(load LO HI (M L) ...)"},
@@ -101,6 +102,8 @@ static bool read_pair(form *f) {
            read_closing(f, IN_FORM);
 }
 
+static bool read_defined_atom(form *f) { return read_numeral(f, ROLE_DEFINED, EXPECT_NUMBER); }
+
 static bool read_open_atom(form *f) { return read_numeral(f, ROLE_OPEN, EXPECT_NUMBER); }
 
 static bool read_parts(form *f, bool (*part)(form *)) {
@@ -130,6 +133,9 @@ static bool read_rest(form *f) {
     switch (f->kind) {
     case KIND_ATOMS:
         return read_space(f, ROLE_SIZE) && read_numeral(f, ROLE_SIZE, EXPECT_NUMBER) && read_closing(f, IN_FORM);
+    case KIND_DEFINED:
+        f->parts = 1; /* the one that must come */
+        return read_space(f, ROLE_DEFINED) && read_defined_atom(f) && read_parts(f, read_defined_atom);
     case KIND_RULE:
         return read_space(f, ROLE_HEAD) && read_numeral(f, ROLE_HEAD, EXPECT_NUMBER) && read_parts(f, read_literal);
     case KIND_CLAUSE: return read_parts(f, read_literal);

@@ -12,11 +12,12 @@ typedef struct line {
     bool ended;    /* whether byte 10 follows */
 } line;
 
-enum kind { KIND_NONE, KIND_ATOMS, KIND_RULE, KIND_CLAUSE, KIND_LOAD, KIND_OPEN, KIND_CLAIM, KINDS };
+enum kind { KIND_NONE, KIND_ATOMS, KIND_DEFINED, KIND_RULE, KIND_CLAUSE, KIND_LOAD, KIND_OPEN, KIND_CLAIM, KINDS };
 
 /* What a number of a form is. Atoms of literals and of load terms are told apart. */
 enum role {
     ROLE_SIZE,
+    ROLE_DEFINED,
     ROLE_HEAD,
     ROLE_LITERAL,
     ROLE_LOW,

@@ -19,7 +19,11 @@ typedef struct search {
     words *said; /* empty until the first number outside its limits */
 } search;
 
-/* Atoms of an open line are held against N, all others against the largest book. */
+/* Atoms of a defined line and of an open line are held against N once there is one, all others against the largest book. */
+static bool is_held_to_n(const search *s, enum role role) {
+    return (role == ROLE_DEFINED || role == ROLE_OPEN) && s->before->last != KIND_NONE;
+}
+
 static uint32_t most(const search *s, enum role role) {
     switch (role) {
     case ROLE_SIZE: return BATTENPLUM_ATOMS;
@@ -28,18 +32,18 @@ static uint32_t most(const search *s, enum role role) {
     case ROLE_MINUTES: return MOST_MINUTES;
     case ROLE_VALUE: return MOST_VALUE;
     case ROLE_LEVEL: return MOST_LEVEL;
-    default: return s->before->last == KIND_NONE || role != ROLE_OPEN ? MOST_ATOM : (uint32_t)s->before->n - 1;
+    default: return is_held_to_n(s, role) ? (uint32_t)s->before->n - 1 : MOST_ATOM;
     }
 }
 
 static bool is_outside(const search *s, const numeral *n) {
-    if (n->role == ROLE_OPEN && s->before->last != KIND_NONE && s->before->n == 0) return true;
+    if (is_held_to_n(s, n->role) && s->before->n == 0) return true;
     return n->size > most(s, n->role);
 }
 
 static void say_written(const search *s, const numeral *n) {
     say_bytes(s->said, s->line->bytes + n->at, n->end - n->at, WORDS_QUOTED);
-    if (n->role == ROLE_OPEN) say_name(s->said, s->names, n->size);
+    if (n->role == ROLE_DEFINED || n->role == ROLE_OPEN) say_name(s->said, s->names, n->size);
 }
 
 static void say_limit(const search *s, const numeral *n) {
@@ -51,7 +55,7 @@ static void say_limit(const search *s, const numeral *n) {
     case ROLE_VALUE: say(s->said, "; values go up to %d, and a claim needs 0 or 1", MOST_VALUE); break;
     case ROLE_LEVEL: say(s->said, "; levels go up to %d", MOST_LEVEL); break;
     default:
-        if (n->role != ROLE_OPEN || s->before->last == KIND_NONE) say(s->said, "; atoms go up to %d", MOST_ATOM);
+        if (!is_held_to_n(s, n->role)) say(s->said, "; atoms go up to %d", MOST_ATOM);
         if (s->before->last == KIND_NONE) break;
         say(s->said, ", and ");
         say_size(s->said, s->before->n);
@@ -71,7 +75,8 @@ static void look_at(void *context, const numeral *n) {
     case ROLE_HIGH: say(s->said, "HI is "); break;
     case ROLE_MINUTES: say(s->said, "the minutes of term %zu are ", n->part); break;
     case ROLE_TERM: say(s->said, "term %zu of this load line names atom ", n->part); break;
-    case ROLE_OPEN: say(s->said, "place %zu of this open line names atom ", n->part); break;
+    case ROLE_DEFINED:
+    case ROLE_OPEN: say(s->said, "place %zu of this %s line names atom ", n->part, kinds[s->kind].word); break;
     case ROLE_VALUE: say(s->said, "pair %zu has the value ", n->part); break;
     case ROLE_LEVEL: say(s->said, "pair %zu has the level ", n->part); break;
     }

@@ -24,6 +24,7 @@ void say_role(spot *s) {
     case ROLE_HIGH: say(s->said, "HI"); break;
     case ROLE_MINUTES: say(s->said, "the minutes of term %zu", part); break;
     case ROLE_TERM: say(s->said, negated ? "the atom of term %zu" : "the literal of term %zu", part); break;
+    case ROLE_DEFINED:
     case ROLE_OPEN: say(s->said, "the atom at place %zu", part); break;
     case ROLE_VALUE: say(s->said, "the value of pair %zu", part); break;
     case ROLE_LEVEL: say(s->said, "the level of pair %zu", part); break;

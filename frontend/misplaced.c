@@ -34,11 +34,20 @@ static const char *most_inside(enum inside inside) {
     }
 }
 
+/* A defined line must name an atom; the others may be missing. */
+static bool is_first_defined(const spot *s) { return s->form->role == ROLE_DEFINED && s->form->parts == 1; }
+
+static void say_no_atom(spot *s) { say(s->said, "this line names no atom; it must name at least one, or be left out"); }
+
 bool say_space(spot *s) {
     size_t past = s->at;
 
     if (byte_here(s) != ' ') return false;
     while (byte_at(s->line, past) == ' ') past++;
+    if (byte_at(s->line, past) == ')' && is_first_defined(s)) {
+        say_no_atom(s);
+        return true;
+    }
     if (byte_at(s->line, past) == ')') {
         say(s->said, "a space stands before the closing bracket, at column %zu", s->at + 1);
     } else if (byte_before(s) == '(') {
@@ -59,7 +68,7 @@ bool say_space(spot *s) {
 
 /* Whether a part at the spot must come; of the others there may be none. */
 static bool is_needed(const spot *s) {
-    if (s->form->inside != IN_FORM) return true;
+    if (s->form->inside != IN_FORM || is_first_defined(s)) return true;
     return s->form->role == ROLE_SIZE || s->form->role == ROLE_HEAD || s->form->role == ROLE_LOW || s->form->role == ROLE_HIGH;
 }
 
@@ -74,6 +83,8 @@ bool say_closing(spot *s) {
         say(s->said, "term %zu has one part and needs two, minutes and a literal", s->form->parts);
     } else if (s->form->inside == IN_PAIR) {
         say(s->said, "pair %zu has one number and needs two, a value and a level", s->form->parts);
+    } else if (is_first_defined(s)) {
+        say_no_atom(s);
     } else {
         say_role(s);
         say(s->said, " is missing at column %zu", s->at + 1);
@@ -118,6 +129,8 @@ static void say_opening(spot *s) {
         say(s->said, "the head is negated, at column %zu; a head is an atom", s->at + 1);
     else if (s->form->role == ROLE_OPEN && negated)
         say(s->said, "a negation stands at column %zu; the open atoms that are not named are false", s->at + 1);
+    else if (s->form->role == ROLE_DEFINED && negated)
+        say(s->said, "a negation stands at column %zu; an atom is declared by its number alone", s->at + 1);
     else {
         say(s->said, "a bracket opens at column %zu where ", s->at + 1);
         say_belongs(s);

@@ -90,7 +90,7 @@ static void say_load(const book *b, const facts *names, explanation *e) {
 }
 
 void explain_model(const book *b, const facts *names, explanation *e) {
-    if (b->number == BATTENPLUM_UNDECIDED && b->position < b->tables.n && is_defined(b, b->position)) say_undecided(b, names, e);
+    if (b->number == BATTENPLUM_UNDECIDED && b->position < b->tables.n && heads_rule(b, b->position)) say_undecided(b, names, e);
     if (b->number == BATTENPLUM_FAILING_CLAUSE && b->position < clause_count(b)) say_clause(b, names, e);
     if (b->number == BATTENPLUM_FAILING_LOAD && b->position < load_count(b)) say_load(b, names, e);
 }

@@ -2,8 +2,9 @@
 #include "explain.h"
 #include "reached.h"
 
-/* The order of the open atoms. */
+/* The order of the atoms in a defined line or an open line. */
 typedef struct rising {
+    const char *atoms; /* what they are called */
     bool begun;
     uint32_t before;
     words *said; /* empty until an atom does not rise */
@@ -12,11 +13,11 @@ typedef struct rising {
 static void look_at(void *context, const numeral *n) {
     rising *r = context;
 
-    if (n->role != ROLE_OPEN || r->said->length > 0) return;
+    if ((n->role != ROLE_DEFINED && n->role != ROLE_OPEN) || r->said->length > 0) return;
     if (r->begun && n->size == r->before)
-        say(r->said, "the open atoms must rise: %u stands twice, at places %zu and %zu", n->size, n->part - 1, n->part);
+        say(r->said, "%s must rise: %u stands twice, at places %zu and %zu", r->atoms, n->size, n->part - 1, n->part);
     else if (r->begun && n->size < r->before)
-        say(r->said, "the open atoms must rise: %u stands after %u, at place %zu", n->size, r->before, n->part);
+        say(r->said, "%s must rise: %u stands after %u, at place %zu", r->atoms, n->size, r->before, n->part);
     r->begun = true;
     r->before = n->size;
 }
@@ -51,12 +52,13 @@ static void say_kind(words *w, const reached *before, enum kind kind) {
         if (kind != KIND_ATOMS) say(w, "the first line must be (atoms N), and this line is %s", kinds[kind].one);
     } else if (before->last == KIND_OPEN || before->last == KIND_CLAIM) {
         say_after_last(w, before, kind);
-    } else if (kind == KIND_ATOMS) {
-        say(w, "a second atoms line; the first is line %zu", before->first_line[KIND_ATOMS]);
+    } else if (before->rows[kind] > 0 && (kind == KIND_ATOMS || kind == KIND_DEFINED)) {
+        say(w, "a second %s line; the first is line %zu", kinds[kind].word, before->first_line[kind]);
     } else {
         at = line_in_the_way(before, kind, &other);
         if (at == 0) return;
-        say(w, "%s stands after %s (line %zu); the order is rules, clauses, load lines", kinds[kind].one, kinds[other].one, at);
+        say(w, "%s stands after %s (line %zu); ", kinds[kind].one, kinds[other].one, at);
+        say(w, kind == KIND_DEFINED ? "it belongs right after the atoms line" : "the order is rules, clauses, load lines");
     }
 }
 
@@ -71,7 +73,7 @@ static void say_end(const book *b, words *w) {
 }
 
 void explain_order(const book *b, explanation *e) {
-    rising r = {false, 0, &e->said};
+    rising r = {"", false, 0, &e->said};
     reached before;
     line l;
     form f;
@@ -84,6 +86,7 @@ void explain_order(const book *b, explanation *e) {
     reach(&before, b, b->position);
     l = line_from(b, b->position);
     form_read(&f, &l, NULL, NULL);
+    r.atoms = f.kind == KIND_DEFINED ? "the atoms of a defined line" : "the open atoms";
     say_kind(&e->said, &before, f.kind);
     if (e->said.length == 0) form_read(&f, &l, look_at, &r);
     if (e->said.length == 0 && f.kind == KIND_CLAIM && f.parts != before.n) say_pairs(&e->said, f.parts, before.n);

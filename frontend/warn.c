@@ -28,7 +28,7 @@ void warn_facts(const facts *names) {
     }
 }
 
-static void mark(bool *used, const uint16_t *literals, size_t count) {
+static void use(bool *used, const uint16_t *literals, size_t count) {
     size_t i;
 
     for (i = 0; i < count; i++) used[literals[i] / 2] = true;
@@ -42,10 +42,10 @@ static void warn_unused(const book *b) {
 
     memset(&unused, 0, sizeof unused);
     for (i = 0; i < rule_count(b); i++) used[rule_head(b, i)] = true;
-    mark(used, b->tables.literals, b->tables.literals_len);
-    mark(used, b->tables.load_literals, b->tables.load_literals_len);
+    use(used, b->tables.literals, b->tables.literals_len);
+    use(used, b->tables.load_literals, b->tables.load_literals_len);
     for (i = 0; i < b->tables.n; i++)
-        if (!used[i]) ranges_add(&unused, i);
+        if (!used[i] && b->tables.marks[i] == 0) ranges_add(&unused, i);
     if (unused.count == 0) return;
     ranges_end(&unused);
     begin(&w, b->name, 1);
@@ -106,6 +106,7 @@ static void warn_no_atom(const book *b, const facts *names, const fact *f) {
 }
 
 static void warn_fact(const book *b, const facts *names, const fact *f) {
+    size_t at = 1;
     words w;
 
     if (f->number >= b->tables.n) {
@@ -113,10 +114,14 @@ static void warn_fact(const book *b, const facts *names, const fact *f) {
         return;
     }
     if (f->open != is_defined(b, f->number)) return;
-    begin(&w, b->name, f->open ? rule_row(b, first_rule(b, f->number)).line : 1);
+    if (f->open) at = heads_rule(b, f->number) ? rule_row(b, first_rule(b, f->number)).line : DEFINED_LINE;
+    begin(&w, b->name, at);
     say_atom(&w, names, f->number);
-    if (f->open) say(&w, " heads this rule, and its fact says that it is open");
-    else say(&w, " heads no rule, and its fact does not say that it is open");
+    if (!f->open) {
+        say(&w, " heads no rule, and its fact does not say that it is open; if it is open, let its fact begin with open");
+        say(&w, "; if its rules were withdrawn, name it in (defined ...)");
+    } else if (heads_rule(b, f->number)) say(&w, " heads this rule, and its fact says that it is open");
+    else say(&w, " is declared defined, and its fact says that it is open");
     end(&w);
 }
 

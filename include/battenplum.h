@@ -10,7 +10,9 @@
  *
  * Counting. Atoms, rows, places and byte offsets all count from 0.
  *
- * Verdicts. A verdict is a number and a position, packed as number * 65536 + position. 0 means accepted.
+ * Verdicts. A verdict is a number and a position, packed as number * 65536 + position. 0 means accepted. Of several faults the first is
+ * reported: for 1 to 4 the first bad line, with its lowest number, and otherwise the first in the order of the numbers below, where 31
+ * stands between 17 and 21, at its lowest position.
  *
  * Machines and stack. The library is built for x86-64 Linux. All work is done on the caller's stack: a thread needs about 96 KB
  * for battenplum_verdict and battenplum_report, and about 8 KB for the other calls.
@@ -23,8 +25,8 @@
 
 /* The version of this header. Before 1.0 each minor version may change the calls. */
 #define BATTENPLUM_VERSION_MAJOR 0
-#define BATTENPLUM_VERSION_MINOR 1
-#define BATTENPLUM_VERSION "0.1"
+#define BATTENPLUM_VERSION_MINOR 2
+#define BATTENPLUM_VERSION "0.2"
 
 /* For functions defined in this header: inline where the language has it, and no warning if unused. */
 #if defined(__cplusplus) || (defined(__STDC_VERSION__) && __STDC_VERSION__ >= 199901L)
@@ -55,7 +57,7 @@ extern "C" {
 #define BATTENPLUM_NUMBER(verdict) ((uint32_t)(verdict) >> 16)
 #define BATTENPLUM_POSITION(verdict) ((uint32_t)(verdict) & 0xFFFFu)
 
-/* The numbers of a verdict, with what the position is. */
+/* The numbers of a verdict in the order in which faults are looked for, with what the position is. */
 enum {
     BATTENPLUM_ACCEPTED = 0,
 
@@ -73,6 +75,7 @@ enum {
     BATTENPLUM_BAD_LITERAL = 15,    /* the place in `literals` */
     BATTENPLUM_BAD_TERM = 16,       /* the place in `load_literals` and `minutes` */
     BATTENPLUM_BAD_LENGTH = 17,     /* 0 */
+    BATTENPLUM_BAD_MARK = 31,       /* the atom, or 0 if `marks` is not n long */
 
     /* The claim, or the open values. */
     BATTENPLUM_BAD_VALUE = 21,   /* the atom */
@@ -100,8 +103,9 @@ BATTENPLUM_INLINE const char *battenplum_message(uint32_t number) {
     case BATTENPLUM_BAD_LOAD_ROW: return "a load line lies outside the table, or its bounds are out of range";
     case BATTENPLUM_BAD_LITERAL: return "a rule or clause names an atom that the book does not have";
     case BATTENPLUM_BAD_TERM: return "a load line names an atom that the book does not have, or its minutes are out of range";
-    case BATTENPLUM_BAD_LENGTH: return "an array does not have one entry for each atom";
-    case BATTENPLUM_BAD_VALUE: return "a value is not 0 or 1, or an atom that a rule defines is set from outside";
+    case BATTENPLUM_BAD_LENGTH: return "an array other than marks does not have one entry for each atom";
+    case BATTENPLUM_BAD_MARK: return "a mark is not 0 or 1, or there is not one mark for each atom";
+    case BATTENPLUM_BAD_VALUE: return "a value is not 0 or 1, or a defined atom is set from outside";
     case BATTENPLUM_BAD_LEVEL: return "a level is out of range";
     case BATTENPLUM_UNSUPPORTED: return "a true atom has no rule that makes it true";
     case BATTENPLUM_UNBLOCKED: return "a false atom has a rule that nothing blocks";
@@ -121,6 +125,8 @@ size_t battenplum_report(const uint8_t *text, size_t text_len, uint8_t *page, si
 
 /* Checks a claim on tables and returns the verdict: accepted exactly if `values` are the well-founded model for their open atoms, `levels`
  * obey the level rules, and all clauses and load lines hold. `values` and `levels` must each be exactly n long (else 17).
+ * `marks` has 1 for each atom that is declared defined and 0 for every other, and must be exactly n long (else 31): all 0 for a book that
+ * declares none. Marked atoms and heads of rules are defined, all others open. A marked atom that heads no rule is false.
  * Writes nothing. A text that battenplum_read accepts can still be refused here: 12, 15 and 16 for an atom that is not below N. */
 uint32_t battenplum_check(size_t n,
                           const uint16_t *rules, size_t rules_len,
@@ -129,11 +135,13 @@ uint32_t battenplum_check(size_t n,
                           const int32_t *loads, size_t loads_len,
                           const uint16_t *load_literals, size_t load_literals_len,
                           const int16_t *minutes, size_t minutes_len,
+                          const uint8_t *marks, size_t marks_len,
                           const uint8_t *values, size_t values_len,
                           const uint16_t *levels, size_t levels_len);
 
 /* Works out the well-founded model and returns rounds * 2^32 + the verdict. `open_values`, `values`, `levels` and `work` must each be
- * exactly n long (else 17). `open_values` has 0 or 1 for each open atom and 0 for each atom that heads a rule (else 21).
+ * exactly n long (else 17). `marks` are as in battenplum_check (else 31). `open_values` has 0 or 1 for each open atom and 0 for each
+ * defined one (else 21).
  * For the numbers 0, 25, 26 and 27 it writes the model to `values` (2 for an undecided atom), each atom's stage to `levels` (0 for open
  * and undecided atoms) and 0 to all of `work`. For every other number it writes nothing, and the rounds are 0. What `values`, `levels` and
  * `work` held before makes no difference. */
@@ -144,6 +152,7 @@ uint64_t battenplum_evaluate(size_t n,
                              const int32_t *loads, size_t loads_len,
                              const uint16_t *load_literals, size_t load_literals_len,
                              const int16_t *minutes, size_t minutes_len,
+                             const uint8_t *marks, size_t marks_len,
                              const uint8_t *open_values, size_t open_values_len,
                              uint8_t *values, size_t values_len,
                              uint16_t *levels, size_t levels_len,
@@ -152,7 +161,8 @@ uint64_t battenplum_evaluate(size_t n,
 /* The rounds in what battenplum_evaluate returns. */
 BATTENPLUM_INLINE uint32_t battenplum_rounds(uint64_t evaluated) { return (uint32_t)(evaluated >> 32); }
 
-/* The places of `answer` of battenplum_read. All but the first and the last are entries, not rows. */
+/* The places of `answer` of battenplum_read. All but the first and the last are entries, not rows. Of `marks` as many are in use as there
+ * are atoms. */
 enum {
     BATTENPLUM_ANSWER_ATOMS = 0,
     BATTENPLUM_ANSWER_RULES = 1,
@@ -173,8 +183,9 @@ enum { BATTENPLUM_STATE_NONE = 0, BATTENPLUM_STATE_OPEN = 1, BATTENPLUM_STATE_CL
 /* Reads a text into tables, so that a book can be read once and many claims checked on it. Returns the verdict on the text alone; its number is
  * 0 to 4.
  * If the text is accepted, each table has its entries at the front and keeps what it held behind them. `answer` receives N, how many
- * entries of each table are in use, and how the text ended. Pass those lengths on, not the room that the tables have. An open line
- * writes N values (1 for each atom that it names, else 0) and leaves `levels` alone; a claim writes N values and N levels.
+ * entries of each table are in use, and how the text ended. Pass those lengths on, not the room that the tables have. Every text writes N
+ * marks (1 for each atom that a defined line names, else 0). An open line writes N values (1 for each atom that it names, else 0) and
+ * leaves `levels` alone; a claim writes N values and N levels.
  * If it is refused, the tables keep what they held, and `answer` is all 0.
  * `answer` must have exactly seven places; otherwise nothing is written and BATTENPLUM_NO_ANSWER is returned. */
 uint32_t battenplum_read(const uint8_t *text, size_t text_len,
@@ -184,12 +195,14 @@ uint32_t battenplum_read(const uint8_t *text, size_t text_len,
                          int32_t *loads, size_t loads_len,
                          uint16_t *load_literals, size_t load_literals_len,
                          int16_t *minutes, size_t minutes_len,
+                         uint8_t *marks, size_t marks_len,
                          uint8_t *values, size_t values_len,
                          uint16_t *levels, size_t levels_len,
                          uint32_t *answer, size_t answer_len);
 
-/* The same calls with the tables in one struct. The lengths are those in use. The wrappers below pass tables->n as the length of every array
- * that has one entry for each atom, so they cannot notice one that is shorter. */
+/* The same calls with the tables in one struct. The lengths are those in use; marks_len is n. The wrappers below pass tables->n as the length
+ * of every array that is not a table, so they cannot notice one that is shorter. A program that assigns the fields one by one must set all of
+ * them, marks and marks_len too: a field that is left unset holds anything, and what the calls do is then undefined. */
 typedef struct battenplum_tables {
     size_t n;
     const uint16_t *rules;
@@ -204,9 +217,11 @@ typedef struct battenplum_tables {
     size_t load_literals_len;
     const int16_t *minutes;
     size_t minutes_len;
+    const uint8_t *marks;
+    size_t marks_len;
 } battenplum_tables;
 
-/* Room for every book, about 72 KB: keep it off small stacks. */
+/* Room for every book, about 73 KB: keep it off small stacks. */
 typedef struct battenplum_storage {
     int32_t loads[BATTENPLUM_LOAD_ENTRIES];
     uint16_t rules[BATTENPLUM_RULE_ENTRIES];
@@ -214,6 +229,7 @@ typedef struct battenplum_storage {
     uint16_t clauses[BATTENPLUM_CLAUSE_ENTRIES];
     uint16_t load_literals[BATTENPLUM_TERMS];
     int16_t minutes[BATTENPLUM_TERMS];
+    uint8_t marks[BATTENPLUM_ATOMS];
     uint16_t levels[BATTENPLUM_ATOMS];
     uint8_t values[BATTENPLUM_ATOMS];
 } battenplum_storage;
@@ -230,6 +246,7 @@ BATTENPLUM_INLINE uint32_t battenplum_read_tables(const uint8_t *text, size_t te
                                        storage->loads, BATTENPLUM_LOAD_ENTRIES,
                                        storage->load_literals, BATTENPLUM_TERMS,
                                        storage->minutes, BATTENPLUM_TERMS,
+                                       storage->marks, BATTENPLUM_ATOMS,
                                        storage->values, BATTENPLUM_ATOMS,
                                        storage->levels, BATTENPLUM_ATOMS,
                                        answer, BATTENPLUM_ANSWER_PLACES);
@@ -246,6 +263,8 @@ BATTENPLUM_INLINE uint32_t battenplum_read_tables(const uint8_t *text, size_t te
     tables->load_literals_len = answer[BATTENPLUM_ANSWER_TERMS];
     tables->minutes = storage->minutes;
     tables->minutes_len = answer[BATTENPLUM_ANSWER_TERMS];
+    tables->marks = storage->marks;
+    tables->marks_len = answer[BATTENPLUM_ANSWER_ATOMS];
     *state = answer[BATTENPLUM_ANSWER_STATE];
     return verdict;
 }
@@ -259,6 +278,7 @@ BATTENPLUM_INLINE uint32_t battenplum_check_tables(const battenplum_tables *tabl
                             tables->loads, tables->loads_len,
                             tables->load_literals, tables->load_literals_len,
                             tables->minutes, tables->minutes_len,
+                            tables->marks, tables->marks_len,
                             values, tables->n,
                             levels, tables->n);
 }
@@ -273,6 +293,7 @@ BATTENPLUM_INLINE uint64_t battenplum_evaluate_tables(const battenplum_tables *t
                                tables->loads, tables->loads_len,
                                tables->load_literals, tables->load_literals_len,
                                tables->minutes, tables->minutes_len,
+                               tables->marks, tables->marks_len,
                                open_values, tables->n,
                                values, tables->n,
                                levels, tables->n,

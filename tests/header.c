@@ -10,7 +10,7 @@
 
 static uint8_t text[BATTENPLUM_TEXT_MAX + 1], page[BATTENPLUM_PAGE_SIZE];
 static battenplum_storage room, again;
-static uint8_t values[BATTENPLUM_ATOMS], plain_values[BATTENPLUM_ATOMS];
+static uint8_t values[BATTENPLUM_ATOMS], plain_values[BATTENPLUM_ATOMS], marks[BATTENPLUM_ATOMS + 1];
 static uint16_t levels[BATTENPLUM_ATOMS], work[BATTENPLUM_ATOMS];
 
 static const char *file_name = "(no file)";
@@ -29,8 +29,8 @@ static void constants(void) {
         BATTENPLUM_ACCEPTED,       BATTENPLUM_MALFORMED,       BATTENPLUM_OUTSIDE_LIMITS, BATTENPLUM_OUT_OF_ORDER,
         BATTENPLUM_NO_SPACE,       BATTENPLUM_BAD_SIZES,       BATTENPLUM_BAD_RULE_ROW,   BATTENPLUM_BAD_CLAUSE_ROW,
         BATTENPLUM_BAD_LOAD_ROW,   BATTENPLUM_BAD_LITERAL,     BATTENPLUM_BAD_TERM,       BATTENPLUM_BAD_LENGTH,
-        BATTENPLUM_BAD_VALUE,      BATTENPLUM_BAD_LEVEL,       BATTENPLUM_UNSUPPORTED,    BATTENPLUM_UNBLOCKED,
-        BATTENPLUM_UNDECIDED,      BATTENPLUM_FAILING_CLAUSE,  BATTENPLUM_FAILING_LOAD};
+        BATTENPLUM_BAD_MARK,       BATTENPLUM_BAD_VALUE,       BATTENPLUM_BAD_LEVEL,      BATTENPLUM_UNSUPPORTED,
+        BATTENPLUM_UNBLOCKED,      BATTENPLUM_UNDECIDED,       BATTENPLUM_FAILING_CLAUSE, BATTENPLUM_FAILING_LOAD};
     const size_t count = sizeof numbers / sizeof numbers[0];
     char version[32];
     size_t i, j;
@@ -45,7 +45,9 @@ static void constants(void) {
     hold(battenplum_rounds((uint64_t)7 << 32 | 0x00190001u) == 7, "rounds are taken out wrongly");
     hold(sizeof room.loads == BATTENPLUM_LOAD_ENTRIES * sizeof(int32_t) && sizeof room.rules == BATTENPLUM_RULE_ENTRIES * sizeof(uint16_t)
              && sizeof room.literals == BATTENPLUM_LITERALS * sizeof(uint16_t) && sizeof room.clauses == BATTENPLUM_CLAUSE_ENTRIES * sizeof(uint16_t)
-             && sizeof room.load_literals == BATTENPLUM_TERMS * sizeof(uint16_t) && sizeof room.minutes == BATTENPLUM_TERMS * sizeof(int16_t),
+             && sizeof room.load_literals == BATTENPLUM_TERMS * sizeof(uint16_t) && sizeof room.minutes == BATTENPLUM_TERMS * sizeof(int16_t)
+             && sizeof room.marks == BATTENPLUM_ATOMS && sizeof room.values == BATTENPLUM_ATOMS
+             && sizeof room.levels == BATTENPLUM_ATOMS * sizeof(uint16_t),
          "the storage does not have its sizes");
 
     memset(text, 'x', sizeof text);
@@ -53,26 +55,71 @@ static void constants(void) {
     hold(battenplum_verdict(text, BATTENPLUM_TEXT_MAX + 1) == (uint32_t)BATTENPLUM_OUTSIDE_LIMITS << 16, "a text that is too long is read");
 }
 
+/* battenplum_read into `again`, with this much room for marks. */
+static uint32_t read_again(size_t length, size_t marks_room, uint32_t *answer) {
+    return battenplum_read(text, length, again.rules, BATTENPLUM_RULE_ENTRIES, again.literals, BATTENPLUM_LITERALS, again.clauses,
+                           BATTENPLUM_CLAUSE_ENTRIES, again.loads, BATTENPLUM_LOAD_ENTRIES, again.load_literals, BATTENPLUM_TERMS,
+                           again.minutes, BATTENPLUM_TERMS, again.marks, marks_room, again.values, BATTENPLUM_ATOMS, again.levels,
+                           BATTENPLUM_ATOMS, answer, BATTENPLUM_ANSWER_PLACES);
+}
+
 /* The call below the struct: it reads the same, and refuses short tables and a short answer. */
 static void plain_read(size_t length, const battenplum_tables *book, uint32_t state) {
     uint32_t answer[BATTENPLUM_ANSWER_PLACES];
-    uint32_t verdict = battenplum_read(text, length, again.rules, BATTENPLUM_RULE_ENTRIES, again.literals, BATTENPLUM_LITERALS,
-                                       again.clauses, BATTENPLUM_CLAUSE_ENTRIES, again.loads, BATTENPLUM_LOAD_ENTRIES,
-                                       again.load_literals, BATTENPLUM_TERMS, again.minutes, BATTENPLUM_TERMS,
-                                       again.values, BATTENPLUM_ATOMS, again.levels, BATTENPLUM_ATOMS, answer, BATTENPLUM_ANSWER_PLACES);
+    uint32_t verdict;
+    size_t last_line = length - 1;
+
+    while (last_line > 0 && text[last_line - 1] != '\n') last_line--;
+    memset(&again, 0xAA, sizeof again);
+    verdict = read_again(length, book->n - 1, answer);
+    hold(verdict == ((uint32_t)BATTENPLUM_NO_SPACE << 16 | (uint32_t)last_line), "one mark too few is not noticed at the last line");
+    hold(again.marks[0] == 0xAA && again.values[0] == 0xAA && again.rules[0] == 0xAAAA, "a text that does not fit is written");
+    memset(&again, 0, sizeof again);
+    verdict = read_again(length, book->n, answer);
     hold(verdict == BATTENPLUM_ACCEPTED, "the plain call does not read the text");
     hold(answer[BATTENPLUM_ANSWER_ATOMS] == book->n && answer[BATTENPLUM_ANSWER_RULES] == book->rules_len
              && answer[BATTENPLUM_ANSWER_LITERALS] == book->literals_len && answer[BATTENPLUM_ANSWER_CLAUSES] == book->clauses_len
              && answer[BATTENPLUM_ANSWER_LOADS] == book->loads_len && answer[BATTENPLUM_ANSWER_TERMS] == book->load_literals_len
-             && answer[BATTENPLUM_ANSWER_TERMS] == book->minutes_len && answer[BATTENPLUM_ANSWER_STATE] == state,
+             && answer[BATTENPLUM_ANSWER_TERMS] == book->minutes_len && answer[BATTENPLUM_ANSWER_ATOMS] == book->marks_len
+             && answer[BATTENPLUM_ANSWER_STATE] == state,
          "the plain call answers something else");
     hold(memcmp(&room, &again, sizeof room) == 0, "the plain call fills the tables otherwise");
 
-    verdict = battenplum_read(text, length, NULL, 0, NULL, 0, NULL, 0, NULL, 0, NULL, 0, NULL, 0, NULL, 0, NULL, 0, answer, BATTENPLUM_ANSWER_PLACES);
+    verdict = battenplum_read(text, length, NULL, 0, NULL, 0, NULL, 0, NULL, 0, NULL, 0, NULL, 0, NULL, 0, NULL, 0, NULL, 0, answer,
+                              BATTENPLUM_ANSWER_PLACES);
     hold(BATTENPLUM_NUMBER(verdict) == BATTENPLUM_NO_SPACE && answer[BATTENPLUM_ANSWER_ATOMS] == 0, "tables without room are filled");
-    verdict = battenplum_read(text, length, NULL, 0, NULL, 0, NULL, 0, NULL, 0, NULL, 0, NULL, 0, NULL, 0, NULL, 0, answer,
+    verdict = battenplum_read(text, length, NULL, 0, NULL, 0, NULL, 0, NULL, 0, NULL, 0, NULL, 0, NULL, 0, NULL, 0, NULL, 0, answer,
                               BATTENPLUM_ANSWER_PLACES - 1);
     hold(verdict == BATTENPLUM_NO_ANSWER, "a short answer is filled");
+}
+
+/* Marks that are not n in number, or not 0 or 1: found before a value of 2, and after levels that are too short. */
+static void bad_marks(const battenplum_tables *book) {
+    const uint32_t fault = (uint32_t)BATTENPLUM_BAD_MARK << 16;
+    battenplum_tables bad = *book;
+
+    bad.marks_len = book->n - 1;
+    hold(battenplum_check_tables(&bad, values, levels) == fault, "too few marks are not noticed");
+    bad.marks = NULL;
+    bad.marks_len = 0;
+    hold(battenplum_check_tables(&bad, values, levels) == fault, "marks that are null are not noticed");
+    hold((uint32_t)battenplum_evaluate_tables(&bad, values, plain_values, levels, work) == fault, "an evaluation does not notice marks that are null");
+    memcpy(marks, book->marks, book->n);
+    marks[book->n] = 0;
+    bad.marks = marks;
+    bad.marks_len = book->n + 1;
+    hold(battenplum_check_tables(&bad, values, levels) == fault, "too many marks are not noticed");
+    hold((uint32_t)battenplum_evaluate_tables(&bad, values, plain_values, levels, work) == fault, "an evaluation does not notice too many marks");
+    bad.marks_len = book->n;
+    hold(BATTENPLUM_NUMBER(battenplum_check_tables(&bad, values, levels)) == BATTENPLUM_BAD_VALUE, "a value of 2 is not noticed");
+    marks[book->n - 1] = 2;
+    hold(battenplum_check_tables(&bad, values, levels) == (fault | (uint32_t)(book->n - 1)), "a mark of 2 is not noticed in a check");
+    hold((uint32_t)battenplum_evaluate_tables(&bad, values, plain_values, levels, work) == (fault | (uint32_t)(book->n - 1)),
+         "a mark of 2 is not noticed in an evaluation");
+    hold(BATTENPLUM_NUMBER(battenplum_check(bad.n, bad.rules, bad.rules_len, bad.literals, bad.literals_len, bad.clauses, bad.clauses_len, bad.loads,
+                                            bad.loads_len, bad.load_literals, bad.load_literals_len, bad.minutes, bad.minutes_len, bad.marks,
+                                            bad.marks_len, values, bad.n, levels, bad.n - 1)) == BATTENPLUM_BAD_LENGTH,
+         "a mark of 2 comes before levels that are too short");
 }
 
 /* Returns 1 if a claim was made and accepted. */
@@ -100,11 +147,13 @@ static int one_book(size_t length) {
     }
     hold(state == BATTENPLUM_STATE_OPEN, "the text ends in no known way");
 
+    memset(values, 0xAA, sizeof values);
+    memset(plain_values, 0xAA, sizeof plain_values);
     made = battenplum_evaluate_tables(&book, room.values, values, levels, work);
     hold((uint32_t)made == whole, "the verdict of the evaluation is not the text's");
     plain = battenplum_evaluate(book.n, book.rules, book.rules_len, book.literals, book.literals_len, book.clauses, book.clauses_len,
                                 book.loads, book.loads_len, book.load_literals, book.load_literals_len, book.minutes, book.minutes_len,
-                                room.values, book.n, plain_values, book.n, levels, book.n, work, book.n);
+                                book.marks, book.marks_len, room.values, book.n, plain_values, book.n, levels, book.n, work, book.n);
     hold(plain == made && memcmp(values, plain_values, book.n) == 0, "the plain call evaluates otherwise");
     if (BATTENPLUM_NUMBER(made) != BATTENPLUM_ACCEPTED) return 0;
 
@@ -112,11 +161,12 @@ static int one_book(size_t length) {
     checked = battenplum_check_tables(&book, values, levels);
     hold(checked == BATTENPLUM_ACCEPTED, "the claim that was made is not accepted");
     hold(battenplum_check(book.n, book.rules, book.rules_len, book.literals, book.literals_len, book.clauses, book.clauses_len, book.loads,
-                          book.loads_len, book.load_literals, book.load_literals_len, book.minutes, book.minutes_len, values, book.n, levels,
-                          book.n) == checked,
+                          book.loads_len, book.load_literals, book.load_literals_len, book.minutes, book.minutes_len, book.marks,
+                          book.marks_len, values, book.n, levels, book.n) == checked,
          "the plain call checks otherwise");
     values[0] = 2;
     hold(BATTENPLUM_NUMBER(battenplum_check_tables(&book, values, levels)) == BATTENPLUM_BAD_VALUE, "a claim with a value of 2 is accepted");
+    bad_marks(&book);
     return 1;
 }
 

@@ -7,6 +7,7 @@ use cross::{
     book::Lengths,
     calls::{Calls, PAGE_SIZE},
     differ::{
+        books::Marking,
         case::Case,
         guarded::GuardedLibrary,
         lengths,
@@ -44,7 +45,7 @@ fn compare(library: &dyn Calls, text: &[u8]) -> Compared {
     session.compare(Case::report(text, PAGE_SIZE))?;
     let read = session.solver.read(text, &Lengths::FULL);
     for _ in 0..2 {
-        let lent = lengths::about(&mut session.random, &read);
+        let lent = lengths::about(&mut session.random, &read, Marking::Some);
         session.compare(Case::read(text, lent))?;
     }
     session.what_was_read(&read)

@@ -24,7 +24,7 @@ impl Verdict {
     }
 }
 
-/// N and the six tables of a book, in the paper's layout. Any content and any lengths, sound or not.
+/// N and the seven tables of a book, in the paper's layout. Any content and any lengths, sound or not.
 #[derive(Clone, PartialEq, Eq, Debug, Default)]
 pub struct Book {
     pub n: usize,
@@ -34,6 +34,15 @@ pub struct Book {
     pub loads: Vec<i32>,
     pub load_literals: Vec<u16>,
     pub minutes: Vec<i16>,
+    /// One for each atom: 1 if it is declared defined, else 0.
+    pub marks: Vec<u8>,
+}
+
+impl Book {
+    /// So many atoms, none of them declared, and no rows.
+    pub fn of_atoms(n: usize) -> Book {
+        Book { n, marks: vec![0; n], ..Book::default() }
+    }
 }
 
 /// Values and levels as a planner claims them, or as the maker writes them.
@@ -70,6 +79,7 @@ pub struct Lengths {
     pub loads: usize,
     pub load_literals: usize,
     pub minutes: usize,
+    pub marks: usize,
     pub values: usize,
     pub levels: usize,
 }
@@ -83,6 +93,7 @@ impl Lengths {
         loads: 256,
         load_literals: 4_096,
         minutes: 4_096,
+        marks: 1_024,
         values: 1_024,
         levels: 1_024,
     };

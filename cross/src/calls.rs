@@ -12,6 +12,7 @@ pub struct Tables<'a> {
     pub loads: &'a [i32],
     pub load_literals: &'a [u16],
     pub minutes: &'a [i16],
+    pub marks: &'a [u8],
 }
 
 impl Book {
@@ -24,6 +25,7 @@ impl Book {
             loads: &self.loads,
             load_literals: &self.load_literals,
             minutes: &self.minutes,
+            marks: &self.marks,
         }
     }
 }
@@ -36,6 +38,7 @@ pub struct TablesToFill<'a> {
     pub loads: &'a mut [i32],
     pub load_literals: &'a mut [u16],
     pub minutes: &'a mut [i16],
+    pub marks: &'a mut [u8],
     pub values: &'a mut [u8],
     pub levels: &'a mut [u16],
 }
@@ -71,6 +74,7 @@ mod c {
             loads: *const i32, loads_len: usize,
             load_literals: *const u16, load_literals_len: usize,
             minutes: *const i16, minutes_len: usize,
+            marks: *const u8, marks_len: usize,
             values: *const u8, values_len: usize,
             levels: *const u16, levels_len: usize,
         ) -> u32;
@@ -83,6 +87,7 @@ mod c {
             loads: *const i32, loads_len: usize,
             load_literals: *const u16, load_literals_len: usize,
             minutes: *const i16, minutes_len: usize,
+            marks: *const u8, marks_len: usize,
             open_values: *const u8, open_values_len: usize,
             values: *mut u8, values_len: usize,
             levels: *mut u16, levels_len: usize,
@@ -97,6 +102,7 @@ mod c {
             loads: *mut i32, loads_len: usize,
             load_literals: *mut u16, load_literals_len: usize,
             minutes: *mut i16, minutes_len: usize,
+            marks: *mut u8, marks_len: usize,
             values: *mut u8, values_len: usize,
             levels: *mut u16, levels_len: usize,
             answer: *mut u32, answer_len: usize,
@@ -129,6 +135,7 @@ impl Calls for Library {
                 t.loads.as_ptr(), t.loads.len(),
                 t.load_literals.as_ptr(), t.load_literals.len(),
                 t.minutes.as_ptr(), t.minutes.len(),
+                t.marks.as_ptr(), t.marks.len(),
                 values.as_ptr(), values.len(),
                 levels.as_ptr(), levels.len(),
             )
@@ -145,6 +152,7 @@ impl Calls for Library {
                 t.loads.as_ptr(), t.loads.len(),
                 t.load_literals.as_ptr(), t.load_literals.len(),
                 t.minutes.as_ptr(), t.minutes.len(),
+                t.marks.as_ptr(), t.marks.len(),
                 open_values.as_ptr(), open_values.len(),
                 values.as_mut_ptr(), values.len(),
                 levels.as_mut_ptr(), levels.len(),
@@ -163,6 +171,7 @@ impl Calls for Library {
                 t.loads.as_mut_ptr(), t.loads.len(),
                 t.load_literals.as_mut_ptr(), t.load_literals.len(),
                 t.minutes.as_mut_ptr(), t.minutes.len(),
+                t.marks.as_mut_ptr(), t.marks.len(),
                 t.values.as_mut_ptr(), t.values.len(),
                 t.levels.as_mut_ptr(), t.levels.len(),
                 answer.as_mut_ptr(), answer.len(),

@@ -12,12 +12,12 @@ use Rattle.format.specs.Forms.{Form}
 use Rattle.format.specs.Views.{kindIn}
 use Rattle.judging.specs.declared.reached.Reached.{Reached}
 use Rattle.judging.specs.declared.reached.Space.{Space}
-use Rattle.judging.specs.LentTables.{Table, Rules, Literals, Clauses, Loads, LoadLiterals, Minutes, Values, Levels, roomIn}
+use Rattle.judging.specs.LentTables.{Table, Rules, Literals, Clauses, Loads, LoadLiterals, Minutes, Marks, Values, Levels, roomIn}
 use Rattle.judging.specs.States.{inLoads, start, after, valuesCounted, levelsCounted, countIn}
 use Rattle.judging.specs.Judging.{partsInOrder}
 use Rattle.judging.specs.Books.{afterAll, passes, allPass, IsBook}
 use Rattle.judging.proofs.TableLaws.{each-table, room-with, start-count}
-use Rattle.judging.proofs.StateLaws.{values-early, levels-early}
+use Rattle.judging.proofs.StateLaws.{values-early, levels-early, values-told}
 use Rattle.judging.proofs.Sequences.{may-follow}
 use Rattle.judging.proofs.Walking.{after-more}
 use Rattle.judging.proofs.Counts.{fits-each}
@@ -26,6 +26,8 @@ use Rattle.forms.specs.Contents.{Contents, over, filled}
 use Rattle.forms.specs.Entries.{entriesOf, givenAnew, joinedBy, joined, entriesFrom, bookEntries}
 use Rattle.forms.specs.internal.Stores.{placeIn, store, storeForms}
 use Rattle.forms.proofs.EntryLaws.{rules-added, literals-added, clauses-added, loads-added, load-literals-added, minutes-added, values-added, levels-added}
+use Rattle.forms.proofs.Marked.{marks-decode}
+use Rattle.forms.proofs.NamedAtoms.{ones-many}
 use Rattle.forms.proofs.OverLaws.{sets-behind, sets-anew, sets-front, over-none}
 use Rattle.booktext.specs.Answers.{spaceOf}
 
@@ -38,7 +40,7 @@ pub each-laid :
 unfolding givenAnew
 each-laid P r l c d o m =
     each-table (λ table. givenAnew table ≡ false → P table) (λ e. r) (λ e. l) (λ e. c) (λ e. d) (λ e. o) (λ e. m)
-    (λ e. absurd (false≢true (sym e))) (λ e. absurd (false≢true (sym e)))
+    (λ e. absurd (false≢true (sym e))) (λ e. absurd (false≢true (sym e))) (λ e. absurd (false≢true (sym e)))
 
 -- There a form is counted by its entries.
 laid-counted :
@@ -143,12 +145,18 @@ module _ (space : Space) (fs : List Form) (book : IsBook space fs) where
   book-ends =
       let q = book .sequence in
       record {
-        before = q .atoms ∷ (q .rules ++ (q .clauses ++ q .loads));
+        before = q .atoms ∷ (q .defined ++ (q .rules ++ (q .clauses ++ q .loads)));
         state = q .state;
         whole = q .whole ∙ ap (λ (xs : List Form). q .atoms ∷ xs) (simp append-assoc);
       }
 
-  -- The state reached counts the entries of each table: N values, and for a claim N levels.
+  marks-counted : length (entriesFrom start fs Marks) ≡ valuesCounted (afterAll start fs)
+  unfolding bookEntries
+  marks-counted =
+      ap length (marks-decode fs (book .sequence))
+      ∙ (ones-many (afterAll start fs .size) _ ∙ sym (values-told (afterAll start fs) (book-passed space fs book .1)))
+
+  -- The state reached counts the entries of each table: N marks and N values, and for a claim N levels.
   pub used-counts : (table : Table) → length (bookEntries fs table) ≡ countIn (afterAll start fs) table
   unfolding bookEntries givenAnew countIn entriesOf start
   used-counts =
@@ -160,7 +168,7 @@ module _ (space : Space) (fs : List Form) (book : IsBook space fs) where
       let laid : (table : Table) → givenAnew table ≡ false → length (entriesFrom start fs table) ≡ countIn (afterAll start fs) table =
       (λ table e. omega (arith, laid-length start fs table e, start-count table)) in
       each-table (λ table. length (entriesFrom start fs table) ≡ countIn (afterAll start fs) table) (laid Rules refl) (laid Literals refl)
-      (laid Clauses refl) (laid Loads refl) (laid LoadLiterals refl) (laid Minutes refl)
+      (laid Clauses refl) (laid Loads refl) (laid LoadLiterals refl) (laid Minutes refl) marks-counted
       (ap (λ (forms : List Form). length (entriesFrom start forms Values)) (ends .whole)
       ∙ (ap length (last-values space (ends .state) start (ends .before) passed) ∙ (values-added s (ends .state) ordered ∙ ap valuesCounted (sym reached))))
       (ap (λ (forms : List Form). length (entriesFrom start forms Levels)) (ends .whole)

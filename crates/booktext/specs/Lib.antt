@@ -1,3 +1,3 @@
--- The reader of book texts: what it answers, what it leaves in the lent tables, and what of that a state form gives.
+-- The reader of book texts: what it answers, what it leaves in the lent tables, and what of that are marks, values and levels.
 pub mod Answers
-pub mod StateEntries
+pub mod GivenEntries

@@ -100,14 +100,15 @@ pub fn read(
     loads: &mut [i32],
     load_literals: &mut [u16],
     minutes: &mut [i16],
+    marks: &mut [u8],
     values: &mut [u8],
     levels: &mut [u16],
 ) -> Book
     ensures { λ r. ⌜ Reads (now (text .entry))
         (lentTables (now (rules .entry)) (now (literals .entry)) (now (clauses .entry)) (now (loads .entry)) (now («load_literals» .entry))
-        (now (minutes .entry)) (now (values .entry)) (now (levels .entry))) r
+        (now (minutes .entry)) (now (marks .entry)) (now (values .entry)) (now (levels .entry))) r
         (lentTables (now (rules .exit)) (now (literals .exit)) (now (clauses .exit)) (now (loads .exit)) (now («load_literals» .exit))
-        (now (minutes .exit)) (now (values .exit)) (now (levels .exit))) ⌝ }
+        (now (minutes .exit)) (now (marks .exit)) (now (values .exit)) (now (levels .exit))) ⌝ }
 {
     let space = Space {
         rules: rules.len(),
@@ -116,6 +117,7 @@ pub fn read(
         loads: loads.len(),
         load_literals: load_literals.len(),
         minutes: minutes.len(),
+        marks: marks.len(),
         values: values.len(),
         levels: levels.len(),
     };
@@ -131,6 +133,7 @@ pub fn read(
         loads,
         load_literals,
         minutes,
+        marks,
         values,
         levels,
     ))

@@ -65,12 +65,13 @@ pub extern "C" fn battenplum_check(
     loads: &[i32],
     load_literals: &[u16],
     minutes: &[i16],
+    marks: &[u8],
     values: &[u8],
     levels: &[u16],
 ) -> u32
     ensures { λ r. ⌜ r ≡ packed
         (checkOf (lent n (now (rules .entry)) (now (literals .entry)) (now (clauses .entry)) (now (loads .entry))
-        (now («load_literals» .entry)) (now (minutes .entry))) (now (values .entry)) (now (levels .entry))) ⌝ }
+        (now («load_literals» .entry)) (now (minutes .entry)) (now (marks .entry))) (now (values .entry)) (now (levels .entry))) ⌝ }
 {
     pack(check(
         n,
@@ -80,6 +81,7 @@ pub extern "C" fn battenplum_check(
         loads,
         load_literals,
         minutes,
+        marks,
         values,
         levels,
     ))
@@ -95,6 +97,7 @@ pub extern "C" fn battenplum_evaluate(
     loads: &[i32],
     load_literals: &[u16],
     minutes: &[i16],
+    marks: &[u8],
     open_values: &[u8],
     values: &mut [u8],
     levels: &mut [u16],
@@ -102,7 +105,7 @@ pub extern "C" fn battenplum_evaluate(
 ) -> u64
     ensures { λ r. ⌜ EvaluatedForC
         (evaluateOf (lent n (now (rules .entry)) (now (literals .entry)) (now (clauses .entry)) (now (loads .entry))
-        (now («load_literals» .entry)) (now (minutes .entry)))
+        (now («load_literals» .entry)) (now (minutes .entry)) (now (marks .entry)))
         (now («open_values» .entry)) (now (values .entry)) (now (levels .entry)) (now (work .entry)))
         r (now (values .exit)) (now (levels .exit)) (now (work .exit)) ⌝ }
 {
@@ -114,6 +117,7 @@ pub extern "C" fn battenplum_evaluate(
         loads,
         load_literals,
         minutes,
+        marks,
         open_values,
         values,
         levels,
@@ -149,15 +153,16 @@ pub extern "C" fn battenplum_read(
     loads: &mut [i32],
     load_literals: &mut [u16],
     minutes: &mut [i16],
+    marks: &mut [u8],
     values: &mut [u8],
     levels: &mut [u16],
     answer: &mut [u32],
 ) -> u32
     ensures { λ r. ⌜ ReadForC (now (text .entry))
         (lentTables (now (rules .entry)) (now (literals .entry)) (now (clauses .entry)) (now (loads .entry)) (now («load_literals» .entry))
-        (now (minutes .entry)) (now (values .entry)) (now (levels .entry))) (now (answer .entry)) r
+        (now (minutes .entry)) (now (marks .entry)) (now (values .entry)) (now (levels .entry))) (now (answer .entry)) r
         (lentTables (now (rules .exit)) (now (literals .exit)) (now (clauses .exit)) (now (loads .exit)) (now («load_literals» .exit))
-        (now (minutes .exit)) (now (values .exit)) (now (levels .exit))) (now (answer .exit)) ⌝ }
+        (now (minutes .exit)) (now (marks .exit)) (now (values .exit)) (now (levels .exit))) (now (answer .exit)) ⌝ }
 {
     if answer.len() != 7 {
         return NO_ANSWER;
@@ -170,6 +175,7 @@ pub extern "C" fn battenplum_read(
         loads,
         load_literals,
         minutes,
+        marks,
         values,
         levels,
     );

@@ -18,7 +18,7 @@ use Rattle.tables.specs.Rows.{ruleCount, ruleHead, ruleBody, ruleAt, definition
 use Rattle.tables.proofs.RowLaws.{book-size, book-rows}
 use Rattle.tables.specs.Sound.{Tables, bookOf, Sound}
 use Rattle.tables.proofs.Faults.{absent-more}
-use Rattle.tables.proofs.SoundTables.{sound-rules, slices-fit}
+use Rattle.tables.proofs.SoundTables.{sound-rules, slices-fit, lent-tables, lent-slices}
 use Rattle.satisfaction.proofs.Satisfied.{absent-satisfies, satisfies-absent}
 use Rattle.tables.specs.Values.{notHeld}
 use Rattle.checker.specs.Check.{badLevel, unsupported, unblocked, valueTest, levelTest, supportTest, blockingTest, levelTests, claimTests, claimSlices, RightClaim}
@@ -26,7 +26,7 @@ use Rattle.checker.specs.Check.{badLevel, unsupported, unblocked, valueT
 module _ (t : Tables) (values levels : List ℕ) where
   row-defined :
       Sound t (claimSlices t values levels) → (row : ℕ) → row < ruleCount (t .rules) → isDefined (bookOf t) (ruleHead (t .rules) row) ≡ true
-  row-defined sound row l = book-rows t .headDefined row l (rw book-size (sound-rules t (sound .tables) .heads row l))
+  row-defined sound row l = book-rows t .headDefined row l (rw book-size (sound-rules t (lent-tables t _ (sound .none)) .heads row l))
 
   pub claim-right :
       Sound t (claimSlices t values levels) → ((test : Test) → List·Memᴰ test (claimTests t values levels) → Absent test) →
@@ -35,7 +35,7 @@ module _ (t : Tables) (values levels : List ℕ) where
   claim-right sound none =
       record {
         twoValued = record {
-          size = slices-fit _ (sound .slices) _ (List·Memᴰ·head refl);
+          size = slices-fit _ (lent-slices t _ (sound .none)) _ (List·Memᴰ·head refl);
           held = λ atom l. not-false _ (none _ (List·Memᴰ·head refl) .nowhere atom l);
         };
         obeys = record {

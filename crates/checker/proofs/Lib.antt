@@ -6,5 +6,5 @@ pub mod Claims
 pub mod LevelReads
 pub mod RowReads
 pub mod Supported
-pub mod MarkedHeads
+pub mod DefinedMarks
 pub mod Computes

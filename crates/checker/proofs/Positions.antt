@@ -5,7 +5,7 @@ use mathlib.Core.List.{List}
 use Rattle.tables.specs.Limits.{maxPosition}
 use Rattle.tables.specs.Faults.{positionOf, firstFault}
 use Rattle.tables.specs.Sound.{Tables, Sizes}
-use Rattle.tables.proofs.Positions.{position-more, few-rules, few-atoms, few-in-book, tables-position, slice-position}
+use Rattle.tables.proofs.Positions.{position-more, few-rules, few-atoms, few-in-book, lent-position}
 use Rattle.satisfaction.proofs.Positions.{satisfaction-position}
 use Rattle.checker.specs.Check.{valueTest, levelTest, supportTest, blockingTest, levelTests, claimTests, checkTests, checkOf}
 
@@ -17,4 +17,4 @@ claim-position t z values levels =
 
 pub check-position : (t : Tables) (values levels : List ℕ) → positionOf (checkOf t values levels) ≤ maxPosition
 unfolding checkOf checkTests
-check-position t values levels = tables-position t _ (λ z. slice-position _ _ (claim-position t z values levels))
+check-position t values levels = lent-position t _ _ (λ z. claim-position t z values levels)

@@ -2,17 +2,17 @@
 -- A claim is accepted if the check's number is 0. `t` is any content of the lent tables, sound or not.
 -- Assumes nothing.
 use Prim.Native.Nat.{ℕ, _≤_}
-use mathlib.Core.Path.{_≡_, refl, ap, _∙_}
+use mathlib.Core.Path.{_≡_, ap, _∙_}
 use mathlib.Core.Logic.{_↔_}
-use mathlib.Core.List.{List, List·Memᴰ, List·Memᴰ·head, List·Memᴰ·tail, Memᴰ·append-left, Memᴰ·append-right}
+use mathlib.Core.List.{List, List·Memᴰ, Memᴰ·append-left, Memᴰ·append-right}
 use Rattle.wellfounded.specs.Stages.{wellFoundedModel, stageOf, TwoValued, SameSetting}
 use Rattle.wellfounded.specs.Levels.{levelAt}
 use Rattle.wellfounded.proofs.Theorems.{sound, stage-below-level, unique}
 use Rattle.tables.specs.declared.Fault.{Fault}
 use Rattle.tables.specs.Faults.{Test, Absent, numberOf, positionOf, faultNumber, RefusedBy}
-use Rattle.tables.specs.Sound.{Tables, bookOf, tableTests, Sound}
+use Rattle.tables.specs.Sound.{Tables, bookOf, lentTests, Sound}
 use Rattle.satisfaction.specs.Satisfied.{Satisfies}
-use Rattle.tables.proofs.Faults.{accepted-absent, absent-accepted, absent-more, first-append, refused-by, by-refused}
+use Rattle.tables.proofs.Faults.{accepted-absent, absent-accepted, first-append, refused-by, by-refused}
 use Rattle.tables.proofs.Numbers.{zero-accepted, number-refused}
 use Rattle.checker.specs.Check.{claimSlices, checkTests, checkOf, RightClaim}
 use Rattle.checker.proofs.Claims.{claim-right, right-claim}
@@ -27,16 +27,12 @@ module _ (t : Tables) (values levels : List ℕ) where
   -- Unsound tables are never accepted.
   pub accepted-sound : numberOf (checkOf t values levels) ≡ 0 → Sound t (claimSlices t values levels)
   unfolding checkTests
-  accepted-sound zero =
-      record {
-        tables = λ test m. no-fault zero test (Memᴰ·append-left _ m);
-        slices = no-fault zero _ (Memᴰ·append-right (tableTests t) (List·Memᴰ·head refl));
-      }
+  accepted-sound zero = record { none = λ test m. no-fault zero test (Memᴰ·append-left _ m) }
 
   pub accepted-right : numberOf (checkOf t values levels) ≡ 0 → RightClaim t values levels
   unfolding checkTests
   accepted-right zero =
-      claim-right t values levels (accepted-sound zero) (λ test m. no-fault zero test (Memᴰ·append-right (tableTests t) (List·Memᴰ·tail m)))
+      claim-right t values levels (accepted-sound zero) (λ test m. no-fault zero test (Memᴰ·append-right (lentTests t (claimSlices t values levels)) m))
 
   -- On sound tables a claim is accepted exactly if it is right.
   pub accepted-exactly :
@@ -47,8 +43,8 @@ module _ (t : Tables) (values levels : List ℕ) where
       accept : RightClaim t values levels → numberOf (checkOf t values levels) ≡ 0
       accept right =
           ap numberOf
-          (first-append (tableTests t) _ (absent-accepted (tableTests t) (sound .tables))
-          ∙ absent-accepted _ (absent-more (sound .slices) (right-claim t values levels sound right)))
+          (first-append (lentTests t (claimSlices t values levels)) _ (absent-accepted _ (sound .none))
+          ∙ absent-accepted _ (right-claim t values levels sound right))
 
   -- Refused with a fault's number at a position exactly if that fault's test fails there, at no lower position, and no
   -- fault earlier in the list `checkTests` occurs. What each test says is in `Readings`.

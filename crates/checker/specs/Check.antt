@@ -12,7 +12,7 @@ use Rattle.tables.specs.declared.Fault.the-variants.{Value, Level, Unsupported,
 use Rattle.tables.specs.declared.Verdict.{Verdict}
 use Rattle.tables.specs.Faults.{Test, firstFault}
 use Rattle.tables.specs.Rows.{ruleCount, ruleHead, ruleBody}
-use Rattle.tables.specs.Sound.{Tables, bookOf, tableTests, Slice, sized, sliceTest}
+use Rattle.tables.specs.Sound.{Tables, bookOf, Slice, sized, lentTests}
 use Rattle.tables.specs.Values.{notHeld}
 use Rattle.satisfaction.specs.Satisfied.{Satisfies, satisfactionTests}
 
@@ -57,9 +57,9 @@ claimTests t values levels =
 abbrev pub claimSlices : Tables → List ℕ → List ℕ → List Slice
 claimSlices t values levels = sized (length values) (t .atoms) ∷ sized (length levels) (t .atoms) ∷ []
 
--- The faults of a call of the check: those of the tables, of the slices lent with them, and of the claim.
+-- The faults of a call of the check: those of what it is lent, and of the claim.
 unfoldable pub checkTests : Tables → List ℕ → List ℕ → List Test
-checkTests t values levels = tableTests t ++ (sliceTest (claimSlices t values levels) ∷ claimTests t values levels)
+checkTests t values levels = lentTests t (claimSlices t values levels) ++ claimTests t values levels
 
 unfoldable pub checkOf : Tables → List ℕ → List ℕ → Verdict
 checkOf t values levels = firstFault (checkTests t values levels)

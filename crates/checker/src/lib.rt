@@ -7,7 +7,7 @@ ghost use Rattle.wellfounded.specs.Definitions.{Definition};
 ghost use Rattle.tables.specs.Limits.{maxAtoms};
 ghost use Rattle.tables.specs.Faults.{firstFault};
 ghost use Rattle.tables.specs.Rows.{definitionOf};
-ghost use Rattle.tables.specs.Sound.{lent};
+ghost use Rattle.tables.specs.Sound.{lent, markTest};
 ghost use Rattle.tables.specs.internal.Definitions.{HasRows};
 ghost use Rattle.tables.specs.internal.Scans.{ClausesScannable, LoadsScannable};
 ghost use Rattle.checker.specs.Check.{supportTest, blockingTest, levelTests, claimTests, checkOf};
@@ -26,7 +26,7 @@ use tables::Fault;
 use tables::Found;
 use tables::Verdict;
 use tables::marks::count_marked;
-use tables::marks::mark_heads;
+use tables::marks::mark_defined;
 use tables::sizes::MAX_ATOMS;
 use tables::sizes::table_fault;
 use tables::values::not_held_atom;
@@ -58,13 +58,21 @@ fn rule_fault(
 }
 
 // The first fault of levels and rules, on tables that have none.
-fn level_fault(rules: &[u16], literals: &[u16], values: &[u8], levels: &[u16]) -> Verdict
+fn level_fault(
+    rules: &[u16],
+    literals: &[u16],
+    marks: &[u8],
+    values: &[u8],
+    levels: &[u16],
+) -> Verdict
     requires { ⌜ Levelled (now rules) (now literals) (now values) (now levels) ⌝ }
-    ensures { λ r. ⌜ r ≡ firstFault (levelTests (definitionOf (length (now (values .entry))) (now (rules .entry)) (now (literals .entry)))
+    requires { ⌜ length (now marks) ≡ length (now values) ⌝ }
+    ensures { λ r. ⌜ r ≡ firstFault (levelTests
+        (definitionOf (length (now (values .entry))) (now (rules .entry)) (now (literals .entry)) (now (marks .entry)))
         (now (rules .entry)) (now (literals .entry)) (now (values .entry)) (now (levels .entry))) ⌝ }
 {
     let mut defined = [0u8; MAX_ATOMS];
-    mark_heads(rules, &mut defined);
+    mark_defined(rules, marks, &mut defined);
     let most = count_marked(&defined, values.len());
     if let Found::At(atom) = bad_level(&defined, most, levels) {
         return Verdict::Refused(Fault::Level, atom);
@@ -72,7 +80,7 @@ fn level_fault(rules: &[u16], literals: &[u16], values: &[u8], levels: &[u16]) -
     rule_fault(rules, literals, &defined, values, levels)
 }
 
-// The first fault of the claim, on tables that have none.
+// The first fault of the marks' entries and of the claim, on tables that have no other.
 fn claim_fault(
     rules: &[u16],
     literals: &[u16],
@@ -80,21 +88,28 @@ fn claim_fault(
     loads: &[i32],
     load_literals: &[u16],
     minutes: &[i16],
+    marks: &[u8],
     values: &[u8],
     levels: &[u16],
 ) -> Verdict
     requires { ⌜ Levelled (now rules) (now literals) (now values) (now levels) ⌝ }
     requires { ⌜ ClausesScannable (now clauses) (now literals) (length (now values)) ⌝ }
     requires { ⌜ LoadsScannable (now loads) (now «load_literals») (now minutes) (length (now values)) ⌝ }
-    ensures { λ r. ⌜ r ≡ firstFault (claimTests
-        (lent (length (now (values .entry))) (now (rules .entry)) (now (literals .entry)) (now (clauses .entry)) (now (loads .entry))
-        (now («load_literals» .entry)) (now (minutes .entry)))
+    requires { ⌜ length (now marks) ≡ length (now values) ⌝ }
+    ensures { λ r. ⌜ r ≡ firstFault
+        (markTest (lent (length (now (values .entry))) (now (rules .entry)) (now (literals .entry)) (now (clauses .entry)) (now (loads .entry))
+        (now («load_literals» .entry)) (now (minutes .entry)) (now (marks .entry)))
+        ∷ claimTests (lent (length (now (values .entry))) (now (rules .entry)) (now (literals .entry)) (now (clauses .entry)) (now (loads .entry))
+        (now («load_literals» .entry)) (now (minutes .entry)) (now (marks .entry)))
         (now (values .entry)) (now (levels .entry))) ⌝ }
 {
+    if let Found::At(atom) = not_held_atom(marks) {
+        return Verdict::Refused(Fault::Mark, atom);
+    }
     if let Found::At(atom) = not_held_atom(values) {
         return Verdict::Refused(Fault::Value, atom);
     }
-    let verdict = level_fault(rules, literals, values, levels);
+    let verdict = level_fault(rules, literals, marks, values, levels);
     if let Verdict::Refused(_, _) = verdict {
         return verdict;
     }
@@ -110,12 +125,13 @@ pub fn check(
     loads: &[i32],
     load_literals: &[u16],
     minutes: &[i16],
+    marks: &[u8],
     values: &[u8],
     levels: &[u16],
 ) -> Verdict
     ensures { λ r. ⌜ r ≡ checkOf
         (lent atoms (now (rules .entry)) (now (literals .entry)) (now (clauses .entry)) (now (loads .entry)) (now («load_literals» .entry))
-        (now (minutes .entry)))
+        (now (minutes .entry)) (now (marks .entry)))
         (now (values .entry)) (now (levels .entry)) ⌝ }
 {
     let verdict = table_fault(
@@ -136,6 +152,9 @@ pub fn check(
     if levels.len() != atoms {
         return Verdict::Refused(Fault::SliceLength, 0);
     }
+    if marks.len() != atoms {
+        return Verdict::Refused(Fault::Mark, 0);
+    }
     claim_fault(
         rules,
         literals,
@@ -143,6 +162,7 @@ pub fn check(
         loads,
         load_literals,
         minutes,
+        marks,
         values,
         levels,
     )

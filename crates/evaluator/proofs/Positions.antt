@@ -2,7 +2,7 @@
 -- Assumes nothing.
 use Prim.Native.Nat.{ℕ, _≤_}
 use mathlib.Core.Path.{_≡_, refl}
-use mathlib.Core.List.{List, [], _∷_, _++_, List·Memᴰ·head, List·Memᴰ·tail, Memᴰ·append-right}
+use mathlib.Core.List.{List, [], _∷_, _++_, List·Memᴰ·head, Memᴰ·append-right}
 use native.Mathlib.Omega.{arith}
 use lib.ListN.{length}
 use Rattle.wellfounded.specs.Stages.{closure, Setting}
@@ -12,9 +12,9 @@ use Rattle.tables.specs.declared.Verdict.the-variants.{Accepted, Refused}
 use Rattle.tables.specs.Limits.{maxAtoms, maxPosition}
 use Rattle.tables.specs.Faults.{positionOf, firstFault}
 use Rattle.tables.specs.Rows.{definitionOf}
-use Rattle.tables.specs.Sound.{Tables, bookOf, tableTests, Slice, sliceTest, Sizes}
+use Rattle.tables.specs.Sound.{Tables, bookOf, lentTests, Slice, Sizes}
 use Rattle.tables.proofs.Faults.{accepted-absent}
-use Rattle.tables.proofs.Positions.{position-more, position-none, passed-sizes, few-atoms, few-in-book, tables-position, slice-position}
+use Rattle.tables.proofs.Positions.{position-more, position-none, passed-sizes, few-atoms, few-in-book, lent-position}
 use Rattle.satisfaction.proofs.Positions.{satisfaction-position}
 use Rattle.evaluator.specs.Evaluate.{settingTest, undecidedTest, evaluationSlices, refusalTests, modelTests, evaluated, stoppedOr, evaluateOf}
 use Rattle.evaluator.proofs.SettingFault.{absent-setting}
@@ -27,7 +27,7 @@ pub refusal-position :
     (t : Tables) (setting : List ℕ) (slices : List Slice) → positionOf (firstFault (refusalTests t setting slices)) ≤ maxPosition
 unfolding refusalTests settingTest
 refusal-position t setting slices =
-    tables-position t _ (λ z. slice-position slices _ (position-more _ _ (few-in-book t z) (λ a. position-none)))
+    lent-position t slices _ (λ z. position-more _ _ (few-in-book t z) (λ a. position-none))
 
 module _ (t : Tables) (setting : List ℕ) (slices : List Slice) (e : firstFault (refusalTests t setting slices) ≡ Accepted) where
   -- Of a setting that is not refused the open atoms are false or true.
@@ -35,12 +35,12 @@ module _ (t : Tables) (setting : List ℕ) (slices : List Slice) (e : firstFault
   unfolding refusalTests
   open-given =
       absent-setting (bookOf t) setting
-      (accepted-absent (tableTests t ++ (sliceTest slices ∷ settingTest (bookOf t) setting ∷ [])) e _
-      (Memᴰ·append-right (tableTests t) (List·Memᴰ·tail (List·Memᴰ·head refl))))
+      (accepted-absent (lentTests t slices ++ (settingTest (bookOf t) setting ∷ [])) e _
+      (Memᴰ·append-right (lentTests t slices) (List·Memᴰ·head refl)))
 
   pub small-tables : Sizes t
   unfolding refusalTests
-  small-tables = passed-sizes t _ e
+  small-tables = passed-sizes t slices _ e
 
   pub small-book : bookOf t .size ≤ maxAtoms
   unfolding bookOf definitionOf

@@ -4,18 +4,18 @@ ghost use mathlib.Core.List.{[], _∷_};
 ghost use lib.ListN.{length};
 ghost use Rattle.wellfounded.specs.Lists.{all};
 ghost use Rattle.tables.specs.Faults.{firstFault};
-ghost use Rattle.tables.specs.Sound.{lent, bookOf, isSized};
+ghost use Rattle.tables.specs.Sound.{lent, isSized};
 ghost use Rattle.tables.specs.internal.Scans.{ClausesScannable, LoadsScannable};
 ghost use Rattle.satisfaction.specs.Satisfied.{clauseTest, loadTest};
-ghost use Rattle.evaluator.specs.Evaluate.{undecidedTest, settingTest, evaluationSlices, evaluated, stoppedOr, evaluateOf, Answers};
-ghost use Rattle.evaluator.specs.internal.Lent.{Lent};
+ghost use Rattle.evaluator.specs.Evaluate.{undecidedTest, evaluationSlices, evaluated, stoppedOr, evaluateOf, Answers};
+ghost use Rattle.evaluator.specs.internal.Lent.{Lent, startTests};
 use rounds::bad_setting;
 use rounds::evaluate_stages;
 use satisfaction::satisfaction_fault;
 use tables::Fault;
 use tables::Found;
 use tables::Verdict;
-use tables::marks::mark_heads;
+use tables::marks::mark_defined;
 use tables::sizes::MAX_ATOMS;
 use tables::sizes::table_fault;
 use tables::values::not_held_atom;
@@ -55,7 +55,7 @@ fn lengths_fit(atoms: usize, setting: usize, values: usize, levels: usize, work:
     (setting == atoms) & ((values == atoms) & ((levels == atoms) & (work == atoms)))
 }
 
-// Evaluates on sound tables and slices: refused for the setting with nothing written, or evaluated.
+// Evaluates on tables and slices without a fault of 11 to 17, and N marks: refused for a mark or for the setting with nothing written, or evaluated.
 fn evaluate_lent(
     rules: &[u16],
     literals: &[u16],
@@ -63,25 +63,32 @@ fn evaluate_lent(
     loads: &[i32],
     load_literals: &[u16],
     minutes: &[i16],
+    marks: &[u8],
     setting: &[u8],
     values: &mut [u8],
     levels: &mut [u16],
     work: &mut [u16],
 ) -> Answer
-    requires { ⌜ Lent (lent (length (now setting)) (now rules) (now literals) (now clauses) (now loads) (now «load_literals») (now minutes))
+    requires { ⌜ Lent (lent (length (now setting)) (now rules) (now literals) (now clauses) (now loads) (now «load_literals») (now minutes) (now marks))
         (now values) (now levels) (now work) ⌝ }
     ensures { λ r. ⌜ Answers
         (stoppedOr
         (firstFault
-        (settingTest (bookOf (lent (length (now (setting .entry))) (now (rules .entry)) (now (literals .entry)) (now (clauses .entry)) (now (loads .entry))
-        (now («load_literals» .entry)) (now (minutes .entry)))) (now (setting .entry)) ∷ []))
+        (startTests (lent (length (now (setting .entry))) (now (rules .entry)) (now (literals .entry)) (now (clauses .entry)) (now (loads .entry))
+        (now («load_literals» .entry)) (now (minutes .entry)) (now (marks .entry))) (now (setting .entry))))
         (now (values .entry)) (now (levels .entry)) (now (work .entry))
         (evaluated (lent (length (now (setting .entry))) (now (rules .entry)) (now (literals .entry)) (now (clauses .entry)) (now (loads .entry))
-        (now («load_literals» .entry)) (now (minutes .entry))) (now (setting .entry))))
+        (now («load_literals» .entry)) (now (minutes .entry)) (now (marks .entry))) (now (setting .entry))))
         (r .verdict) (r .rounds) (now (values .exit)) (now (levels .exit)) (now (work .exit)) ⌝ }
 {
+    if let Found::At(atom) = not_held_atom(marks) {
+        return Answer {
+            verdict: Verdict::Refused(Fault::Mark, atom),
+            rounds: 0,
+        };
+    }
     let mut defined = [0u8; MAX_ATOMS];
-    mark_heads(rules, &mut defined);
+    mark_defined(rules, marks, &mut defined);
     if let Found::At(atom) = bad_setting(&defined, setting) {
         return Answer {
             verdict: Verdict::Refused(Fault::Value, atom),
@@ -103,6 +110,7 @@ pub fn evaluate(
     loads: &[i32],
     load_literals: &[u16],
     minutes: &[i16],
+    marks: &[u8],
     open_values: &[u8],
     values: &mut [u8],
     levels: &mut [u16],
@@ -110,7 +118,7 @@ pub fn evaluate(
 ) -> Answer
     ensures { λ r. ⌜ Answers
         (evaluateOf (lent atoms (now (rules .entry)) (now (literals .entry)) (now (clauses .entry)) (now (loads .entry))
-        (now («load_literals» .entry)) (now (minutes .entry)))
+        (now («load_literals» .entry)) (now (minutes .entry)) (now (marks .entry)))
         (now («open_values» .entry)) (now (values .entry)) (now (levels .entry)) (now (work .entry)))
         (r .verdict) (r .rounds) (now (values .exit)) (now (levels .exit)) (now (work .exit)) ⌝ }
 {
@@ -138,6 +146,12 @@ pub fn evaluate(
             rounds: 0,
         };
     }
+    if marks.len() != atoms {
+        return Answer {
+            verdict: Verdict::Refused(Fault::Mark, 0),
+            rounds: 0,
+        };
+    }
     evaluate_lent(
         rules,
         literals,
@@ -145,6 +159,7 @@ pub fn evaluate(
         loads,
         load_literals,
         minutes,
+        marks,
         open_values,
         values,
         levels,

@@ -7,14 +7,14 @@ use mathlib.Core.List.{List, [], _∷_, _++_, append-assoc, append-nil}
 use lib.IntN.{ℤ}
 use lib.ListN.{length, drop}
 use Rattle.format.specs.declared.kinds.Kind.{Kind}
-use Rattle.format.specs.declared.kinds.Kind.the-variants.{Atoms, Rule, Clause, Load, Open, Claim, Unknown}
+use Rattle.format.specs.declared.kinds.Kind.the-variants.{Atoms, Rule, Clause, Load, Open, Claim, Defined, Unknown}
 use Rattle.format.specs.Forms.{LiteralText, TermText, PairText}
-use Rattle.format.specs.Forms.{Form, atomsForm, ruleForm, clauseForm, loadForm, openForm, claimForm}
-use Rattle.format.specs.Forms.{space, closing, lineEnd, atomsWord, ruleWord, clauseWord, loadWord, openWord, claimWord}
+use Rattle.format.specs.Forms.{Form, atomsForm, ruleForm, clauseForm, loadForm, openForm, claimForm, definedForm}
+use Rattle.format.specs.Forms.{space, closing, lineEnd, atomsWord, ruleWord, clauseWord, loadWord, openWord, claimWord, definedWord}
 use Rattle.format.specs.Forms.{decimal, signed, literalBytes, termBytes, pairBytes, partsBytes, render}
 use Rattle.format.specs.Words.{startsWith, wordOf, kindOf}
 use Rattle.format.specs.Parse.{Reading, got, refused, Holds, andThen, skip, readNumber, readSigned, readLiteral, readTerm, readPair, parts}
-use Rattle.format.specs.Parse.{readAtoms, readRule, readClause, readLoad, readOpen, readClaim, readAs, readForm, whole, parse, readLine}
+use Rattle.format.specs.Parse.{readAtoms, readRule, readClause, readLoad, readOpen, readClaim, asDefined, readDefined, readAs, readForm, whole, parse, readLine}
 use Rattle.format.proofs.Readings.{holds-use, holds-then, skip-written}
 use Rattle.format.proofs.Pieces.{closing-ends, space-ends, number-inverse, signed-inverse, literal-inverse, term-inverse, pair-inverse}
 use Rattle.format.proofs.Parts.{parts-end, parts-reads, parts-written}
@@ -56,6 +56,10 @@ claim-reads : (ps : List PairText) (rest : List ℕ) → readForm (render (claim
 unfolding render readForm kindOf wordOf readAs startsWith readClaim andThen skip
 claim-reads ps rest = rw (parts-reads pairBytes readPair pair-inverse ps rest)
 
+defined-reads : (atom : ℕ) (others rest : List ℕ) → readForm (render (definedForm atom others) ++ rest) ≡ got (definedForm atom others) rest
+unfolding render readForm kindOf wordOf readAs startsWith readDefined asDefined andThen skip
+defined-reads atom others rest = rw (parts-reads decimal readNumber number-inverse (atom ∷ others) rest)
+
 pub form-reads : (f : Form) (rest : List ℕ) → readForm (render f ++ rest) ≡ got f rest
 form-reads (atomsForm n) = atoms-reads n
 form-reads (ruleForm h ls) = rule-reads h ls
@@ -63,6 +67,7 @@ form-reads (clauseForm ls) = clause-reads ls
 form-reads (loadForm lo hi ts) = load-reads lo hi ts
 form-reads (openForm atoms) = open-reads atoms
 form-reads (claimForm ps) = claim-reads ps
+form-reads (definedForm atom others) = defined-reads atom others
 
 -- What is read as a form of some kind, written again after its word, are the bytes.
 module _ (bytes : List ℕ) where
@@ -113,6 +118,16 @@ module _ (bytes : List ℕ) where
       holds-then (λ ps end. bytes ≡ partsBytes pairBytes ps ++ end) (After Claim) (parts readPair bytes) _ (parts-written pairBytes readPair pair-inverse bytes) λ ps end e.
       rw e
 
+  defined-written : Holds (After Defined) (readDefined bytes)
+  unfolding wordOf render readDefined asDefined
+  defined-written =
+      holds-then (λ atoms end. bytes ≡ partsBytes decimal atoms ++ end) (After Defined) (parts readNumber bytes) _
+      (parts-written decimal readNumber number-inverse bytes) step
+    where
+      step : (atoms end : List ℕ) → bytes ≡ partsBytes decimal atoms ++ end → Holds (After Defined) (asDefined atoms end)
+      step [] end e = tt
+      step (atom ∷ others) end e = rw e
+
   as-written : (kind : Kind) → Holds (After kind) (readAs kind bytes)
   unfolding readAs
   as-written Atoms = atoms-written
@@ -121,6 +136,7 @@ module _ (bytes : List ℕ) where
   as-written Load = load-written
   as-written Open = open-written
   as-written Claim = claim-written
+  as-written Defined = defined-written
   as-written Unknown = tt
 
 -- The word that tells the kind stands in front.
@@ -139,7 +155,7 @@ module _ (bytes : List ℕ) where
   unfolding kindOf wordOf
   kind-begins =
       begins atomsWord Atoms _ refl (begins ruleWord Rule _ refl (begins clauseWord Clause _ refl (begins loadWord Load _ refl (begins openWord Open _ refl
-      (begins claimWord Claim Unknown refl refl)))))
+      (begins claimWord Claim _ refl (begins definedWord Defined Unknown refl refl))))))
 
 pub form-written : (bytes : List ℕ) → Holds (λ f rest. bytes ≡ render f ++ rest) (readForm bytes)
 unfolding readForm

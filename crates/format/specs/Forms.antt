@@ -19,7 +19,7 @@ pub record PairText : Type 0 where
   pub value : ℕ
   pub level : ℕ
 
--- One form stands on each line.
+-- One form stands on each line. A defined form names at least one atom: the first, and those after it.
 pub data Form : Type 0 where
   atomsForm : ℕ → Form
   ruleForm : ℕ → List LiteralText → Form
@@ -27,6 +27,7 @@ pub data Form : Type 0 where
   loadForm : ℤ → ℤ → List TermText → Form
   openForm : List ℕ → Form
   claimForm : List PairText → Form
+  definedForm : ℕ → List ℕ → Form
 
 -- Bytes: space, brackets, minus, and the end of a line.
 abbrev pub space : ℕ
@@ -77,7 +78,7 @@ module _ {A : Type 0} where
   partsBytes bytes [] = closing ∷ []
   partsBytes bytes (x ∷ xs) = space ∷ (bytes x ++ partsBytes bytes xs)
 
--- The words that forms begin with: `(atoms`, `(rule`, `(clause`, `(load`, `(open`, `(claim`.
+-- The words that forms begin with: `(atoms`, `(rule`, `(clause`, `(load`, `(open`, `(claim`, `(defined`.
 abbrev pub atomsWord : List ℕ
 atomsWord = 40 ∷ 97 ∷ 116 ∷ 111 ∷ 109 ∷ 115 ∷ []
 
@@ -96,6 +97,9 @@ openWord = 40 ∷ 111 ∷ 112 ∷ 101 ∷ 110 ∷ []
 abbrev pub claimWord : List ℕ
 claimWord = 40 ∷ 99 ∷ 108 ∷ 97 ∷ 105 ∷ 109 ∷ []
 
+abbrev pub definedWord : List ℕ
+definedWord = 40 ∷ 100 ∷ 101 ∷ 102 ∷ 105 ∷ 110 ∷ 101 ∷ 100 ∷ []
+
 -- A form's line, without the byte that ends it.
 unfoldable pub render : Form → List ℕ
 render (atomsForm n) = atomsWord ++ (space ∷ (decimal n ++ (closing ∷ [])))
@@ -104,6 +108,7 @@ render (clauseForm ls) = clauseWord ++ partsBytes literalBytes ls
 render (loadForm lo hi ts) = loadWord ++ (space ∷ (signed lo ++ (space ∷ (signed hi ++ partsBytes termBytes ts))))
 render (openForm atoms) = openWord ++ partsBytes decimal atoms
 render (claimForm ps) = claimWord ++ partsBytes pairBytes ps
+render (definedForm atom others) = definedWord ++ partsBytes decimal (atom ∷ others)
 
 -- A text is the lines of its forms, each ended by byte 10.
 unfoldable pub renderAll : List Form → List ℕ

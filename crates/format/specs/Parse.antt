@@ -5,10 +5,10 @@ use mathlib.Core.List.{List, [], _∷_}
 use lib.Dec.{leb, eqb}
 use lib.IntN.{ℤ, pos, negsuc}
 use lib.ListN.{length, drop}
-use Rattle.format.specs.Forms.{LiteralText, TermText, PairText, Form, atomsForm, ruleForm, clauseForm, loadForm, openForm, claimForm}
+use Rattle.format.specs.Forms.{LiteralText, TermText, PairText, Form, atomsForm, ruleForm, clauseForm, loadForm, openForm, claimForm, definedForm}
 use Rattle.format.specs.Forms.{space, opening, closing, minus, lineEnd, notWord}
 use Rattle.format.specs.declared.kinds.Kind.{Kind}
-use Rattle.format.specs.declared.kinds.Kind.the-variants.{Atoms, Rule, Clause, Load, Open, Claim, Unknown}
+use Rattle.format.specs.declared.kinds.Kind.the-variants.{Atoms, Rule, Clause, Load, Open, Claim, Defined, Unknown}
 use Rattle.format.specs.Words.{kindOf, wordOf}
 
 -- Something read, with the bytes after it; or a refusal.
@@ -123,6 +123,14 @@ readOpen bytes = andThen (parts readNumber bytes) (λ atoms end. got (openForm a
 unfoldable pub readClaim : List ℕ → Reading Form
 readClaim bytes = andThen (parts readPair bytes) (λ ps end. got (claimForm ps) end)
 
+-- `(defined)` names no atom and is no form.
+unfoldable pub asDefined : List ℕ → List ℕ → Reading Form
+asDefined [] rest = refused
+asDefined (atom ∷ others) rest = got (definedForm atom others) rest
+
+unfoldable pub readDefined : List ℕ → Reading Form
+readDefined bytes = andThen (parts readNumber bytes) asDefined
+
 unfoldable pub readAs : Kind → List ℕ → Reading Form
 readAs Atoms bytes = readAtoms bytes
 readAs Rule bytes = readRule bytes
@@ -130,6 +138,7 @@ readAs Clause bytes = readClause bytes
 readAs Load bytes = readLoad bytes
 readAs Open bytes = readOpen bytes
 readAs Claim bytes = readClaim bytes
+readAs Defined bytes = readDefined bytes
 readAs Unknown bytes = refused
 
 -- The form at the front of some bytes: its word tells the kind.

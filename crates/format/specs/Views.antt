@@ -1,13 +1,13 @@
 -- What a form says, part by part. Whatever is asked of a form but its bytes is asked of its view.
 use Prim.Native.Nat.{ℕ}
 use mathlib.Core.Bool.{Bool}
-use mathlib.Core.List.{List, []}
+use mathlib.Core.List.{List, [], _∷_}
 use lib.Dec.{eqb}
 use lib.IntN.{ℤ, pos}
 use Rattle.format.specs.declared.kinds.Kind.{Kind}
-use Rattle.format.specs.declared.kinds.Kind.the-variants.{Atoms, Rule, Clause, Load, Open, Claim, Unknown}
+use Rattle.format.specs.declared.kinds.Kind.the-variants.{Atoms, Rule, Clause, Load, Open, Claim, Defined, Unknown}
 use Rattle.format.specs.Forms.{LiteralText, TermText, PairText}
-use Rattle.format.specs.Forms.{Form, atomsForm, ruleForm, clauseForm, loadForm, openForm, claimForm}
+use Rattle.format.specs.Forms.{Form, atomsForm, ruleForm, clauseForm, loadForm, openForm, claimForm, definedForm}
 
 -- The kind of a form, its numbers and what it lists; what a form does not have is 0 or empty.
 pub record View : Type 0 where
@@ -34,6 +34,8 @@ viewOf (openForm atoms) =
     record { kind = Open; size = 0; head = 0; low = pos 0; high = pos 0; literals = []; terms = []; atoms = atoms; pairs = [] }
 viewOf (claimForm ps) =
     record { kind = Claim; size = 0; head = 0; low = pos 0; high = pos 0; literals = []; terms = []; atoms = []; pairs = ps }
+viewOf (definedForm atom others) =
+    record { kind = Defined; size = 0; head = 0; low = pos 0; high = pos 0; literals = []; terms = []; atoms = atom ∷ others; pairs = [] }
 
 abbrev pub kindIn : Form → Kind
 kindIn f = viewOf f .kind
@@ -47,6 +49,7 @@ kindNumber Clause = 3
 kindNumber Load = 4
 kindNumber Open = 5
 kindNumber Claim = 6
+kindNumber Defined = 7
 
 unfoldable pub sameKind : Kind → Kind → Bool
 sameKind k l = eqb (kindNumber k) (kindNumber l)

@@ -5,8 +5,8 @@ use mathlib.Core.List.{List, [], _∷_}
 use lib.Dec.{eqb}
 use lib.ListN.{drop}
 use Rattle.format.specs.declared.kinds.Kind.{Kind}
-use Rattle.format.specs.declared.kinds.Kind.the-variants.{Atoms, Rule, Clause, Load, Open, Claim, Unknown}
-use Rattle.format.specs.Forms.{atomsWord, ruleWord, clauseWord, loadWord, openWord, claimWord}
+use Rattle.format.specs.declared.kinds.Kind.the-variants.{Atoms, Rule, Clause, Load, Open, Claim, Defined, Unknown}
+use Rattle.format.specs.Forms.{atomsWord, ruleWord, clauseWord, loadWord, openWord, claimWord, definedWord}
 
 -- Whether bytes begin with a word.
 unfoldable pub startsWith : List ℕ → List ℕ → Bool
@@ -26,6 +26,7 @@ wordOf Clause = clauseWord
 wordOf Load = loadWord
 wordOf Open = openWord
 wordOf Claim = claimWord
+wordOf Defined = definedWord
 wordOf Unknown = []
 
 -- The kind of form that some bytes begin with.
@@ -36,7 +37,8 @@ kindOf bytes =
     (cond (startsWith clauseWord bytes) Clause
     (cond (startsWith loadWord bytes) Load
     (cond (startsWith openWord bytes) Open
-    (cond (startsWith claimWord bytes) Claim Unknown)))))
+    (cond (startsWith claimWord bytes) Claim
+    (cond (startsWith definedWord bytes) Defined Unknown))))))
 
 unfoldable pub kindAt : List ℕ → ℕ → Kind
 kindAt text at = kindOf (drop at text)

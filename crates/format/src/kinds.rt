@@ -11,6 +11,7 @@ pub enum Kind {
     Load,
     Open,
     Claim,
+    Defined,
     Unknown,
 }
 
@@ -35,6 +36,9 @@ pub fn kind_at(text: &[u8], at: usize) -> Kind
     }
     if word_at(text, at, b"(claim") {
         return Kind::Claim;
+    }
+    if word_at(text, at, b"(defined") {
+        return Kind::Defined;
     }
     Kind::Unknown
 }

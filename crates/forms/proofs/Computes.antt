@@ -2,12 +2,12 @@
 -- Assumes nothing.
 use Rattle.items.proofs.Computes.{computes as items-computes}
 use Rattle.judging.proofs.Computes.{computes as judging-computes}
-use Rattle.forms.specs.Entries.{literalsIn, termsIn, ruleRow, clauseRow, loadRow, openValues, stateValues, stateLevels, entriesOf}
+use Rattle.forms.specs.Entries.{literalsIn, termsIn, ruleRow, clauseRow, loadRow, onesAt, marksGiven, stateValues, stateLevels, entriesOf}
 use Rattle.forms.specs.Entries.{givenAnew, joinedBy, joined, entriesFrom, bookEntries}
 use Rattle.forms.specs.Contents.{over}
 
 unfoldable opens-entries : Unit {0}
-unfolding literalsIn termsIn ruleRow clauseRow loadRow openValues stateValues stateLevels entriesOf givenAnew joinedBy joined entriesFrom bookEntries over
+unfolding literalsIn termsIn ruleRow clauseRow loadRow onesAt marksGiven stateValues stateLevels entriesOf givenAnew joinedBy joined entriesFrom bookEntries over
 opens-entries = tt
 
 unfoldable pub computes : Unit {0}

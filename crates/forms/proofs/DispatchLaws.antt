@@ -8,26 +8,26 @@ use lib.IntN.{ℤ}
 use lib.ListN.{length, drop, length-append, length-drop}
 use lib.Seq.{sets, drop-drop}
 use Rattle.format.specs.declared.kinds.Kind.{Kind}
-use Rattle.format.specs.declared.kinds.Kind.the-variants.{Atoms, Rule, Clause, Load, Open, Claim, Unknown}
-use Rattle.format.specs.Forms.{LiteralText, TermText, PairText, Form, atomsForm, ruleForm, clauseForm, loadForm, openForm, claimForm}
+use Rattle.format.specs.declared.kinds.Kind.the-variants.{Atoms, Rule, Clause, Load, Open, Claim, Defined, Unknown}
+use Rattle.format.specs.Forms.{LiteralText, TermText, PairText, Form, atomsForm, ruleForm, clauseForm, loadForm, openForm, claimForm, definedForm}
 use Rattle.format.specs.Forms.{space, closing}
 use Rattle.format.specs.Views.{viewOf, ofKind, sameKind, kindNumber}
 use Rattle.format.specs.Words.{wordOf, kindAt}
 use Rattle.format.specs.Parse.{Reading, got, refused, Holds, andThen, skip, readNumber, readSigned, readLiteral, readTerm, readPair, parts}
-use Rattle.format.specs.Parse.{readAtoms, readRule, readClause, readLoad, readOpen, readClaim, readAs, readForm}
+use Rattle.format.specs.Parse.{readAtoms, readRule, readClause, readLoad, readOpen, readClaim, asDefined, readDefined, readAs, readForm}
 use Rattle.items.specs.Items.{literalCode}
 use Rattle.format.proofs.Lines.{kind-begins}
 use Rattle.judging.specs.declared.reached.Reached.{Reached}
-use Rattle.judging.specs.LentTables.{Rules, Literals, Clauses, Loads, LoadLiterals, Minutes, Values, Levels}
+use Rattle.judging.specs.LentTables.{Rules, Literals, Clauses, Loads, LoadLiterals, Minutes, Marks, Values, Levels}
 use Rattle.judging.specs.States.{countIn}
 use Rattle.judging.proofs.TableLaws.{each-table}
 use Rattle.lists.specs.internal.Lists.{Inside}
 use Rattle.forms.specs.declared.Line.{Line}
 use Rattle.forms.specs.declared.Line.the-variants.{NoForm}
 use Rattle.forms.specs.Contents.{Contents, lentTables}
-use Rattle.forms.specs.Entries.{entriesOf, givenAnew, literalsIn, termsIn, ruleRow, clauseRow, loadRow, stateValues, stateLevels}
+use Rattle.forms.specs.Entries.{entriesOf, givenAnew, literalsIn, termsIn, ruleRow, clauseRow, loadRow, marksGiven, stateValues, stateLevels}
 use Rattle.forms.specs.internal.Stores.{placeIn, store}
-use Rattle.forms.specs.internal.Readers.{formed, WellPlaced, Forms}
+use Rattle.forms.specs.internal.Readers.{formed, Forms}
 
 -- The entries of a form are stored.
 abbrev pub Stored : Reached → Contents → Contents → Form → Type 0
@@ -87,6 +87,14 @@ module _ (P : Form → Type 0) (bytes : List ℕ) where
   unfolding readClaim
   only-claims h = then-any P (parts readPair bytes) _ λ ps end. h ps
 
+  only-defined : ((atom : ℕ) (others : List ℕ) → P (definedForm atom others)) → Holds (λ f end. P f) (readDefined bytes)
+  unfolding readDefined asDefined
+  only-defined h = then-any P (parts readNumber bytes) _ step
+    where
+      step : (atoms end : List ℕ) → Holds (λ f rest. P f) (asDefined atoms end)
+      step [] end = tt
+      step (atom ∷ others) end = h atom others
+
 -- What a form of some kind has written is what its entries ask.
 lifted :
     {s : Reached} {text : List ℕ} {answer : Line} (bytes : List ℕ) {written : Form → Type 0} (stored : Form → Type 0) (r : Reading Form) →
@@ -100,10 +108,10 @@ stored-tables :
     (s : Reached) (f : Form) (before after : Contents) → after Rules ≡ store s (entriesOf s f) before Rules →
     after Literals ≡ store s (entriesOf s f) before Literals → after Clauses ≡ store s (entriesOf s f) before Clauses →
     after Loads ≡ store s (entriesOf s f) before Loads → after LoadLiterals ≡ store s (entriesOf s f) before LoadLiterals →
-    after Minutes ≡ store s (entriesOf s f) before Minutes → after Values ≡ store s (entriesOf s f) before Values →
-    after Levels ≡ store s (entriesOf s f) before Levels → Stored s before after f
-stored-tables s f before after r l c d o m v k =
-    fun-ext (each-table (λ table. after table ≡ store s (entriesOf s f) before table) r l c d o m v k)
+    after Minutes ≡ store s (entriesOf s f) before Minutes → after Marks ≡ store s (entriesOf s f) before Marks →
+    after Values ≡ store s (entriesOf s f) before Values → after Levels ≡ store s (entriesOf s f) before Levels → Stored s before after f
+stored-tables s f before after r l c d o m a v k =
+    fun-ext (each-table (λ table. after table ≡ store s (entriesOf s f) before table) r l c d o m a v k)
 
 -- No word of a form stands at the offset.
 module _ {s : Reached} {text : List ℕ} (at : ℕ) {result : Kind} (before : Contents) (is : result ≡ kindAt text at) where
@@ -113,16 +121,30 @@ module _ {s : Reached} {text : List ℕ} (at : ℕ) {result : Kind} (before : Co
 
 -- A form of each kind, read after its word. It adds to the tables of its kind, and the others are left as they were.
 module _ {s : Reached} {text : List ℕ} (at : ℕ) {result : Kind} {answer : Line} (before : Contents) (is : result ≡ kindAt text at) where
-  -- An atoms form adds nothing.
+  -- An atoms form and a defined form give the marks.
   pub atoms-form :
-      result ≡ Atoms → answer ≡ formed s text (readAtoms (drop (at + 6) text)) →
-      Forms s text (readForm (drop at text)) answer (Stored s before before)
-  unfolding readAs wordOf lentTables store placeIn givenAnew countIn entriesOf literalsIn termsIn ruleRow clauseRow loadRow stateValues stateLevels viewOf ofKind sameKind kindNumber
-  atoms-form e a =
-      let bytes = drop (at + 6) text in
-      lifted (drop at text) (Stored s before before) (readAtoms bytes) (read-as text at Atoms is e)
-      (only-atoms _ _ λ n w. stored-tables s (atomsForm n) before before refl refl refl refl refl refl refl refl)
-      record { answered = a; laid = only-atoms (λ f. WellPlaced s f → Unit {0}) bytes (λ n fine. tt) }
+      (marks₁ : List ℕ) → result ≡ Atoms →
+      Forms s text (readAtoms (drop (at + 6) text)) answer (λ f. marks₁ ≡ sets (before Marks) 0 (marksGiven s f)) →
+      Forms s text (readForm (drop at text)) answer
+      (Stored s before
+      (lentTables (before Rules) (before Literals) (before Clauses) (before Loads) (before LoadLiterals) (before Minutes) marks₁
+      (before Values) (before Levels)))
+  unfolding readAs wordOf lentTables store placeIn givenAnew countIn entriesOf literalsIn termsIn ruleRow clauseRow loadRow marksGiven stateValues stateLevels viewOf ofKind sameKind kindNumber
+  atoms-form marks₁ e read =
+      lifted (drop at text) (Stored s before _) (readAtoms (drop (at + 6) text)) (read-as text at Atoms is e)
+      (only-atoms _ _ λ n w. stored-tables s (atomsForm n) before _ refl refl refl refl refl refl w refl refl) read
+
+  pub defined-form :
+      (marks₁ : List ℕ) → result ≡ Defined →
+      Forms s text (readDefined (drop (at + 8) text)) answer (λ f. marks₁ ≡ sets (before Marks) 0 (marksGiven s f)) →
+      Forms s text (readForm (drop at text)) answer
+      (Stored s before
+      (lentTables (before Rules) (before Literals) (before Clauses) (before Loads) (before LoadLiterals) (before Minutes) marks₁
+      (before Values) (before Levels)))
+  unfolding readAs wordOf lentTables store placeIn givenAnew countIn entriesOf literalsIn termsIn ruleRow clauseRow loadRow marksGiven stateValues stateLevels viewOf ofKind sameKind kindNumber
+  defined-form marks₁ e read =
+      lifted (drop at text) (Stored s before _) (readDefined (drop (at + 8) text)) (read-as text at Defined is e)
+      (only-defined _ _ λ atom others w. stored-tables s (definedForm atom others) before _ refl refl refl refl refl refl w refl refl) read
 
   pub rule-form :
       (rules₁ literals₁ : List ℕ) → result ≡ Rule →
@@ -131,12 +153,12 @@ module _ {s : Reached} {text : List ℕ} (at : ℕ) {result : Kind} {answer : Li
       (literals₁ ≡ sets (before Literals) (s .literals) (map literalCode (literalsIn f)))) →
       Forms s text (readForm (drop at text)) answer
       (Stored s before
-      (lentTables rules₁ literals₁ (before Clauses) (before Loads) (before LoadLiterals) (before Minutes) (before Values)
+      (lentTables rules₁ literals₁ (before Clauses) (before Loads) (before LoadLiterals) (before Minutes) (before Marks) (before Values)
       (before Levels)))
-  unfolding readAs wordOf lentTables store placeIn givenAnew countIn entriesOf literalsIn termsIn ruleRow clauseRow loadRow stateValues stateLevels viewOf ofKind sameKind kindNumber
+  unfolding readAs wordOf lentTables store placeIn givenAnew countIn entriesOf literalsIn termsIn ruleRow clauseRow loadRow marksGiven stateValues stateLevels viewOf ofKind sameKind kindNumber
   rule-form rules₁ literals₁ e read =
       lifted (drop at text) (Stored s before _) (readRule (drop (at + 5) text)) (read-as text at Rule is e)
-      (only-rules _ _ λ head ls w. stored-tables s (ruleForm head ls) before _ (w .0) (w .1) refl refl refl refl refl refl) read
+      (only-rules _ _ λ head ls w. stored-tables s (ruleForm head ls) before _ (w .0) (w .1) refl refl refl refl refl refl refl) read
 
   pub clause-form :
       (literals₁ clauses₁ : List ℕ) → result ≡ Clause →
@@ -145,12 +167,12 @@ module _ {s : Reached} {text : List ℕ} (at : ℕ) {result : Kind} {answer : Li
       (literals₁ ≡ sets (before Literals) (s .literals) (map literalCode (literalsIn f)))) →
       Forms s text (readForm (drop at text)) answer
       (Stored s before
-      (lentTables (before Rules) literals₁ clauses₁ (before Loads) (before LoadLiterals) (before Minutes) (before Values)
+      (lentTables (before Rules) literals₁ clauses₁ (before Loads) (before LoadLiterals) (before Minutes) (before Marks) (before Values)
       (before Levels)))
-  unfolding readAs wordOf lentTables store placeIn givenAnew countIn entriesOf literalsIn termsIn ruleRow clauseRow loadRow stateValues stateLevels viewOf ofKind sameKind kindNumber
+  unfolding readAs wordOf lentTables store placeIn givenAnew countIn entriesOf literalsIn termsIn ruleRow clauseRow loadRow marksGiven stateValues stateLevels viewOf ofKind sameKind kindNumber
   clause-form literals₁ clauses₁ e read =
       lifted (drop at text) (Stored s before _) (readClause (drop (at + 7) text)) (read-as text at Clause is e)
-      (only-clauses _ _ λ ls w. stored-tables s (clauseForm ls) before _ refl (w .1) (w .0) refl refl refl refl refl) read
+      (only-clauses _ _ λ ls w. stored-tables s (clauseForm ls) before _ refl (w .1) (w .0) refl refl refl refl refl refl) read
 
   pub load-form :
       (loads₁ : List ℤ) (loadLiterals₁ : List ℕ) (minutes₁ : List ℤ) → result ≡ Load →
@@ -160,23 +182,24 @@ module _ {s : Reached} {text : List ℕ} (at : ℕ) {result : Kind} {answer : Li
       × (minutes₁ ≡ sets (before Minutes) (s .terms) (map (λ (t : TermText). t .minutes) (termsIn f)))) →
       Forms s text (readForm (drop at text)) answer
       (Stored s before
-      (lentTables (before Rules) (before Literals) (before Clauses) loads₁ loadLiterals₁ minutes₁ (before Values) (before Levels)))
-  unfolding readAs wordOf lentTables store placeIn givenAnew countIn entriesOf literalsIn termsIn ruleRow clauseRow loadRow stateValues stateLevels viewOf ofKind sameKind kindNumber
+      (lentTables (before Rules) (before Literals) (before Clauses) loads₁ loadLiterals₁ minutes₁ (before Marks) (before Values)
+      (before Levels)))
+  unfolding readAs wordOf lentTables store placeIn givenAnew countIn entriesOf literalsIn termsIn ruleRow clauseRow loadRow marksGiven stateValues stateLevels viewOf ofKind sameKind kindNumber
   load-form loads₁ loadLiterals₁ minutes₁ e read =
       lifted (drop at text) (Stored s before _) (readLoad (drop (at + 5) text)) (read-as text at Load is e)
-      (only-loads _ _ λ lo hi ts w. stored-tables s (loadForm lo hi ts) before _ refl refl refl (w .0) (w .1) (w .2) refl refl) read
+      (only-loads _ _ λ lo hi ts w. stored-tables s (loadForm lo hi ts) before _ refl refl refl (w .0) (w .1) (w .2) refl refl refl) read
 
   pub open-form :
       (values₁ : List ℕ) → result ≡ Open →
       Forms s text (readOpen (drop (at + 5) text)) answer (λ f. values₁ ≡ sets (before Values) 0 (stateValues s f)) →
       Forms s text (readForm (drop at text)) answer
       (Stored s before
-      (lentTables (before Rules) (before Literals) (before Clauses) (before Loads) (before LoadLiterals) (before Minutes) values₁
+      (lentTables (before Rules) (before Literals) (before Clauses) (before Loads) (before LoadLiterals) (before Minutes) (before Marks) values₁
       (before Levels)))
-  unfolding readAs wordOf lentTables store placeIn givenAnew countIn entriesOf literalsIn termsIn ruleRow clauseRow loadRow stateValues stateLevels viewOf ofKind sameKind kindNumber
+  unfolding readAs wordOf lentTables store placeIn givenAnew countIn entriesOf literalsIn termsIn ruleRow clauseRow loadRow marksGiven stateValues stateLevels viewOf ofKind sameKind kindNumber
   open-form values₁ e read =
       lifted (drop at text) (Stored s before _) (readOpen (drop (at + 5) text)) (read-as text at Open is e)
-      (only-open _ _ λ atoms w. stored-tables s (openForm atoms) before _ refl refl refl refl refl refl w refl) read
+      (only-open _ _ λ atoms w. stored-tables s (openForm atoms) before _ refl refl refl refl refl refl refl w refl) read
 
   pub claim-form :
       (values₁ levels₁ : List ℕ) → result ≡ Claim →
@@ -185,8 +208,8 @@ module _ {s : Reached} {text : List ℕ} (at : ℕ) {result : Kind} {answer : Li
       Forms s text (readForm (drop at text)) answer
       (Stored s before
       (lentTables (before Rules) (before Literals) (before Clauses) (before Loads) (before LoadLiterals)
-      (before Minutes) values₁ levels₁))
-  unfolding readAs wordOf lentTables store placeIn givenAnew countIn entriesOf literalsIn termsIn ruleRow clauseRow loadRow stateValues stateLevels viewOf ofKind sameKind kindNumber
+      (before Minutes) (before Marks) values₁ levels₁))
+  unfolding readAs wordOf lentTables store placeIn givenAnew countIn entriesOf literalsIn termsIn ruleRow clauseRow loadRow marksGiven stateValues stateLevels viewOf ofKind sameKind kindNumber
   claim-form values₁ levels₁ e read =
       lifted (drop at text) (Stored s before _) (readClaim (drop (at + 6) text)) (read-as text at Claim is e)
-      (only-claims _ _ λ ps w. stored-tables s (claimForm ps) before _ refl refl refl refl refl refl (w .0) (w .1)) read
+      (only-claims _ _ λ ps w. stored-tables s (claimForm ps) before _ refl refl refl refl refl refl refl (w .0) (w .1)) read

@@ -8,7 +8,6 @@ use lib.Dec.{eqb}
 use lib.ListN.{length, length-map}
 use borrow.Author.Tests.{eqb-true}
 use Rattle.wellfounded.proofs.Tests.{second}
-use Rattle.wellfounded.proofs.Lists.{length-tabulate}
 use Rattle.tables.specs.Rows.{ruleWidth, clauseWidth}
 use Rattle.tables.specs.Loads.{loadWidth}
 use Rattle.format.specs.declared.kinds.Kind.the-variants.{Rule, Clause, Load, Open, Claim}
@@ -20,7 +19,8 @@ use Rattle.judging.specs.declared.reached.Reached.{Reached}
 use Rattle.judging.specs.States.{advanced, after, valuesCounted, levelsCounted}
 use Rattle.judging.specs.Judging.{risesFrom, partsInOrder}
 use Rattle.judging.proofs.StateLaws.{values-after, levels-after}
-use Rattle.forms.specs.Entries.{literalsIn, termsIn, ruleRow, clauseRow, loadRow, openValues, stateValues, stateLevels}
+use Rattle.forms.specs.Entries.{literalsIn, termsIn, ruleRow, clauseRow, loadRow, onesAt, stateValues, stateLevels}
+use Rattle.forms.proofs.NamedAtoms.{ones-many}
 
 -- A row or none.
 row-length : {A : Type 0} (b : Bool) (row : List A) (width : ℕ) → length row ≡ width → length (cond b row []) ≡ cond b width 0
@@ -64,14 +64,14 @@ module _ (s : Reached) (f : Form) where
       step false e h = rw (lists-by-kind f .noPairs e)
 
   pub values-added : partsInOrder s f ≡ true → length (stateValues s f) ≡ valuesCounted (after s f)
-  unfolding stateValues openValues ofKind
+  unfolding stateValues ofKind
   values-added o = rw values-after (step (sameKind (kindIn f) Open))
     where
       step :
           (b : Bool) →
-          length (cond b (openValues (s .size) (viewOf f .atoms)) (map (λ (p : PairText). p .value) (viewOf f .pairs)))
+          length (cond b (onesAt (s .size) (viewOf f .atoms)) (map (λ (p : PairText). p .value) (viewOf f .pairs)))
           ≡ cond (b || sameKind (kindIn f) Claim) (s .size) 0
-      step true = length-tabulate _ _
+      step true = ones-many (s .size) (viewOf f .atoms)
       step false = rw length-map (pairs-counted o)
 
   pub levels-added : partsInOrder s f ≡ true → length (stateLevels f) ≡ levelsCounted (after s f)

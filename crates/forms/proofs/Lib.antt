@@ -1,5 +1,6 @@
--- `Decodes` says that the entries of a book mean what its forms do. The other files are laws of forms as code reads them.
+-- `Decodes` and `Marked` say that the entries of a book mean what its forms do. The other files are laws of forms as code reads them.
 pub mod Decodes
+pub mod Marked
 pub mod EntryLaws
 pub mod OverLaws
 pub mod Gathered
@@ -9,6 +10,8 @@ pub mod RuleForm
 pub mod ClauseForm
 pub mod LoadForm
 pub mod ClaimForm
+pub mod NamedAtoms
 pub mod OpenForm
+pub mod DefinedForm
 pub mod DispatchLaws
 pub mod Computes

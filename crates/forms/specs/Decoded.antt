@@ -1,4 +1,4 @@
--- What the forms of a book mean, as rules, clauses and load lines.
+-- What the forms of a book mean, as rules, clauses, load lines and atoms that are declared defined.
 use Prim.Native.Nat.{ℕ}
 use mathlib.Core.Bool.{cond}
 use mathlib.Core.List.{List, [], _∷_, _++_, map}
@@ -44,3 +44,12 @@ clausesIn (f ∷ fs) = clauseIn f ++ clausesIn fs
 unfoldable pub loadsIn : List Form → List Load
 loadsIn [] = []
 loadsIn (f ∷ fs) = loadIn f ++ loadsIn fs
+
+-- The atoms that a form declares defined, if it is a defined form.
+unfoldable pub declaredBy : Form → List ℕ
+declaredBy f = cond (ofKind FormKind.Defined f) (viewOf f .atoms) []
+
+-- The atoms that a book declares defined, in order.
+unfoldable pub declaredIn : List Form → List ℕ
+declaredIn [] = []
+declaredIn (f ∷ fs) = declaredBy f ++ declaredIn fs

@@ -4,14 +4,14 @@ use mathlib.Core.Bool.{Bool, true, false, cond}
 use mathlib.Core.List.{List, [], _∷_, _++_, map}
 use lib.Dec.{eqb}
 use lib.IntN.{ℤ, pos}
-use lib.ListN.{length}
+use lib.ListN.{length, replicate}
 use Rattle.wellfounded.specs.Lists.{any, tabulate}
-use Rattle.format.specs.declared.kinds.Kind.the-variants.{Rule, Clause, Load, Open}
+use Rattle.format.specs.declared.kinds.Kind.the-variants.{Rule, Clause, Load, Open, Defined}
 use Rattle.format.specs.Forms.{LiteralText, TermText, PairText, Form}
 use Rattle.format.specs.Views.{viewOf, ofKind}
 use Rattle.items.specs.Items.{literalCode}
 use Rattle.judging.specs.declared.reached.Reached.{Reached}
-use Rattle.judging.specs.LentTables.{Table, Rules, Literals, Clauses, Loads, LoadLiterals, Minutes, Values, Levels}
+use Rattle.judging.specs.LentTables.{Table, Rules, Literals, Clauses, Loads, LoadLiterals, Minutes, Marks, Values, Levels}
 use Rattle.judging.specs.States.{start, after}
 use Rattle.forms.specs.Contents.{Contents, over}
 
@@ -32,12 +32,17 @@ clauseRow s f = cond (ofKind Clause f) (s .literals ∷ length (viewOf f .litera
 unfoldable pub loadRow : Reached → Form → List ℤ
 loadRow s f = cond (ofKind Load f) (viewOf f .low ∷ viewOf f .high ∷ pos (s .terms) ∷ pos (length (viewOf f .terms)) ∷ []) []
 
--- An open form gives every atom a value, 1 if it is named; a claim gives values and levels by its pairs, which no other form has.
-unfoldable pub openValues : ℕ → List ℕ → List ℕ
-openValues size atoms = tabulate size (λ atom. cond (any (eqb atom) atoms) 1 0)
+-- An entry for each atom: 1 at the atoms that are named, 0 at the others.
+unfoldable pub onesAt : ℕ → List ℕ → List ℕ
+onesAt size atoms = tabulate size (λ atom. cond (any (eqb atom) atoms) 1 0)
 
+-- An atoms form, which alone has a size, gives every atom the mark 0; a defined form gives every atom a mark, 1 if it is named.
+unfoldable pub marksGiven : Reached → Form → List ℕ
+marksGiven s f = cond (ofKind Defined f) (onesAt (s .size) (viewOf f .atoms)) (replicate (viewOf f .size) 0)
+
+-- An open form gives every atom a value, 1 if it is named; a claim gives values and levels by its pairs, which no other form has.
 unfoldable pub stateValues : Reached → Form → List ℕ
-stateValues s f = cond (ofKind Open f) (openValues (s .size) (viewOf f .atoms)) (map (λ (p : PairText). p .value) (viewOf f .pairs))
+stateValues s f = cond (ofKind Open f) (onesAt (s .size) (viewOf f .atoms)) (map (λ (p : PairText). p .value) (viewOf f .pairs))
 
 unfoldable pub stateLevels : Form → List ℕ
 stateLevels f = map (λ (p : PairText). p .level) (viewOf f .pairs)
@@ -50,10 +55,11 @@ entriesOf s f Clauses = clauseRow s f
 entriesOf s f Loads = loadRow s f
 entriesOf s f LoadLiterals = map (λ (t : TermText). literalCode (t .literal)) (termsIn f)
 entriesOf s f Minutes = map (λ (t : TermText). t .minutes) (termsIn f)
+entriesOf s f Marks = marksGiven s f
 entriesOf s f Values = stateValues s f
 entriesOf s f Levels = stateLevels f
 
--- Values and levels are given anew, from the front; the entries of the other tables are laid down behind those before them.
+-- Marks, values and levels are given anew, from the front; the entries of the other tables are laid down behind those before them.
 unfoldable pub givenAnew : Table → Bool
 givenAnew Rules = false
 givenAnew Literals = false
@@ -61,6 +67,7 @@ givenAnew Clauses = false
 givenAnew Loads = false
 givenAnew LoadLiterals = false
 givenAnew Minutes = false
+givenAnew Marks = true
 givenAnew Values = true
 givenAnew Levels = true
 

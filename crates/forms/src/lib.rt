@@ -9,7 +9,7 @@ use lists::read_atoms;
 use lists::read_literals;
 use lists::read_pairs;
 use lists::read_terms;
-use lists::stores::clear_values;
+use lists::stores::clear;
 use lists::stores::store_clause;
 use lists::stores::store_load;
 use lists::stores::store_rule;
@@ -23,19 +23,20 @@ ghost use mathlib.Core.Path.{_≡_};
 ghost use mathlib.Core.Bool.{true};
 ghost use Prim.Native.Nat.{_≤_};
 ghost use mathlib.Core.List.{map};
-ghost use lib.Dec.{leb};
+ghost use lib.Dec.{leb, ltb};
 ghost use lib.IntN.{natAbs};
-ghost use lib.ListN.{drop};
+ghost use lib.ListN.{drop, replicate};
 ghost use lib.Seq.{sets};
 ghost use Rattle.format.specs.Forms.{TermText};
-ghost use Rattle.format.specs.Parse.{readAtoms, readRule, readClause, readLoad, readOpen, readClaim};
+ghost use Rattle.format.specs.Parse.{readNumber, parts, readAtoms, readRule, readClause, readLoad, readOpen, readClaim, readDefined};
 ghost use Rattle.items.specs.Items.{literalCode};
 ghost use Rattle.tables.specs.Limits.{maxBound, maxAtoms};
 ghost use Rattle.judging.specs.States.{countsWithin};
 ghost use Rattle.judging.specs.Judging.{atomBound};
-ghost use Rattle.lists.specs.internal.Lists.{Inside};
-ghost use Rattle.forms.specs.Entries.{literalsIn, termsIn, ruleRow, clauseRow, loadRow, stateValues, stateLevels};
-ghost use Rattle.forms.specs.internal.Readers.{Forms, formed};
+ghost use Rattle.judging.specs.internal.Shapes.{cappedRise};
+ghost use Rattle.lists.specs.internal.Lists.{Inside, Lists, marked};
+ghost use Rattle.forms.specs.Entries.{literalsIn, termsIn, ruleRow, clauseRow, loadRow, marksGiven, stateValues, stateLevels};
+ghost use Rattle.forms.specs.internal.Readers.{Forms};
 
 // The shape of a line's form with the offset after it; or no form.
 pub enum Line {
@@ -43,10 +44,11 @@ pub enum Line {
     NoForm,
 }
 
-// `N)` of `(atoms N)`.
-pub fn read_atoms_form(text: &[u8], at: usize, reached: Reached) -> Line
+// `N)` of `(atoms N)`. The mark of each atom is put to 0.
+pub fn read_atoms_form(text: &[u8], at: usize, reached: Reached, marks: &mut [u8]) -> Line
     requires { ⌜ Inside (now text) at ⌝ }
-    ensures { λ r. ⌜ r ≡ formed reached (now (text .entry)) (readAtoms (drop at (now (text .entry)))) ⌝ }
+    ensures { λ r. ⌜ Forms reached (now (text .entry)) (readAtoms (drop at (now (text .entry)))) r
+        (λ f. now (marks .exit) ≡ sets (now (marks .entry)) 0 (marksGiven reached f)) ⌝ }
 {
     if !byte_at(text, at, b' ') {
         return Line::NoForm;
@@ -57,6 +59,7 @@ pub fn read_atoms_form(text: &[u8], at: usize, reached: Reached) -> Line
     if !byte_at(text, next, b')') {
         return Line::NoForm;
     }
+    clear(marks, size);
     let shape = Shape {
         kind: Kind::Atoms,
         size,
@@ -190,7 +193,7 @@ pub fn read_load_form(
     Line::Formed(shape, end)
 }
 
-// The bound of open atoms: N, or before an atoms line the most atoms that a book has.
+// The bound of named atoms: N, or before an atoms line the most atoms that a book has.
 fn atom_bound(reached: Reached) -> usize
     ensures { λ r. ⌜ r ≡ atomBound reached ⌝ }
 {
@@ -201,6 +204,17 @@ fn atom_bound(reached: Reached) -> usize
     }
 }
 
+// The atoms that a form names, each marked in a table with an entry for each atom. Before that all are put to 0.
+fn read_named(text: &[u8], at: usize, reached: Reached, table: &mut [u8]) -> Parts
+    requires { ⌜ Inside (now text) at ⌝ }
+    requires { ⌜ reached .size ≤ maxAtoms ⌝ }
+    ensures { λ r. ⌜ Lists (now (text .entry)) (λ atom. ltb atom (atomBound reached)) cappedRise (parts readNumber (drop at (now (text .entry)))) r
+        (λ atoms. now (table .exit) ≡ marked atoms (sets (now (table .entry)) 0 (replicate (reached .size) 0))) ⌝ }
+{
+    clear(table, reached.size);
+    read_atoms(text, at, atom_bound(reached), table)
+}
+
 // `A ..)` of `(open A ..)`.
 pub fn read_open_form(text: &[u8], at: usize, reached: Reached, values: &mut [u8]) -> Line
     requires { ⌜ Inside (now text) at ⌝ }
@@ -208,17 +222,34 @@ pub fn read_open_form(text: &[u8], at: usize, reached: Reached, values: &mut [u8
     ensures { λ r. ⌜ Forms reached (now (text .entry)) (readOpen (drop at (now (text .entry)))) r
         (λ f. now (values .exit) ≡ sets (now (values .entry)) 0 (stateValues reached f)) ⌝ }
 {
-    clear_values(values, reached.size);
-    let Parts::Listed(parts, within, rising, end) = read_atoms(
-        text,
-        at,
-        atom_bound(reached),
-        values,
-    ) else {
+    let Parts::Listed(parts, within, rising, end) = read_named(text, at, reached, values) else {
         return Line::NoForm;
     };
     let shape = Shape {
         kind: Kind::Open,
+        size: 0,
+        parts,
+        within,
+        rising,
+    };
+    Line::Formed(shape, end)
+}
+
+// `A ..)` of `(defined A ..)`: there is at least one atom.
+pub fn read_defined_form(text: &[u8], at: usize, reached: Reached, marks: &mut [u8]) -> Line
+    requires { ⌜ Inside (now text) at ⌝ }
+    requires { ⌜ reached .size ≤ maxAtoms ⌝ }
+    ensures { λ r. ⌜ Forms reached (now (text .entry)) (readDefined (drop at (now (text .entry)))) r
+        (λ f. now (marks .exit) ≡ sets (now (marks .entry)) 0 (marksGiven reached f)) ⌝ }
+{
+    let Parts::Listed(parts, within, rising, end) = read_named(text, at, reached, marks) else {
+        return Line::NoForm;
+    };
+    if parts == 0 {
+        return Line::NoForm;
+    }
+    let shape = Shape {
+        kind: Kind::Defined,
         size: 0,
         parts,
         within,

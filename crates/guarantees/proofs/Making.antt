@@ -4,7 +4,7 @@ use Prim.Native.Nat.{ℕ, _<_}
 use mathlib.Core.Path.{_≡_, refl, sym, ap, _∙_}
 use mathlib.Core.Logic.{_↔_}
 use mathlib.Core.Bool.{true, false, not, false≢true}
-use mathlib.Core.List.{List, _++_, List·Memᴰ, List·Memᴰ·head, List·Memᴰ·tail}
+use mathlib.Core.List.{List, _++_, List·Memᴰ·head, List·Memᴰ·tail}
 use borrow.Author.Tests.{not-false, not-true}
 use lib.Dec.{ltb}
 use Rattle.wellfounded.specs.Lists.{all}
@@ -19,12 +19,12 @@ use Rattle.tables.specs.declared.Fault.{Fault}
 use Rattle.tables.specs.declared.Fault.the-variants.{Undecided}
 use Rattle.tables.specs.declared.Verdict.{Verdict}
 use Rattle.tables.specs.declared.Verdict.the-variants.{Accepted, Refused}
-use Rattle.tables.specs.Faults.{Test, Absent, firstFault, lowest, numberOf, faultNumber}
-use Rattle.tables.specs.Sound.{Tables, bookOf, tableTests, sliceTest, Sound}
+use Rattle.tables.specs.Faults.{Absent, firstFault, lowest, numberOf, faultNumber}
+use Rattle.tables.specs.Sound.{Tables, bookOf, Slice, sliceTest, lentTests, Sound}
 use Rattle.satisfaction.specs.Satisfied.{clauseTest, loadTest, satisfactionTests}
 use Rattle.tables.proofs.Faults.{lowest-at, lowest-found, first-passes, first-fails, absent-none, absent-more, accepted-absent, absent-accepted, refused-among, first-append, first-append-refused}
 use Rattle.tables.proofs.RowLaws.{book-size}
-use Rattle.tables.proofs.SoundTables.{slices-absent, sized-none, sized-more}
+use Rattle.tables.proofs.SoundTables.{slices-absent, sized-none, sized-more, lent-tables, lent-marks, lent-none}
 use Rattle.satisfaction.proofs.Satisfied.{absent-satisfies, satisfies-absent}
 use Rattle.checker.specs.Check.{claimSlices, checkOf}
 use Rattle.checker.proofs.Theorems.{accepted-exactly}
@@ -71,8 +71,8 @@ pub lent-passes :
     firstFault (stopTests t o v l w) ≡ Accepted
 unfolding stopTests refusalTests
 lent-passes t o v l w lent sound =
-    first-append (tableTests t) _ (absent-accepted (tableTests t) (sound .tables))
-    ∙ absent-accepted _ (absent-more (sound .slices) (absent-more (setting-absent (bookOf t) o (lent .setting) (lent .zeros)) absent-none))
+    first-append (lentTests t (makerSlices t o v l w)) _ (absent-accepted _ (sound .none))
+    ∙ absent-accepted _ (absent-more (setting-absent (bookOf t) o (lent .setting) (lent .zeros)) absent-none)
 
 -- ── What the maker leaves ──
 
@@ -145,10 +145,11 @@ module _ (t : Tables) (o : List ℕ) where
 
   -- The check accepts a good model with its stages.
   pub good-checked :
-      Good t o → ((test : Test) → List·Memᴰ test (tableTests t) → Absent test) →
+      Good t o → {others : List Slice} → Sound t others →
       numberOf (checkOf t (wellFoundedModel (bookOf t) o) (stagesOf (bookOf t) o)) ≡ 0
-  good-checked good tables =
-      accepted-exactly t (wellFoundedModel (bookOf t) o) (stagesOf (bookOf t) o) (record { tables = tables; slices = slices }) .1
+  good-checked good {others} sound =
+      accepted-exactly t (wellFoundedModel (bookOf t) o) (stagesOf (bookOf t) o)
+      (record { none = lent-none t _ (lent-tables t others (sound .none)) slices (lent-marks t others (sound .none)) }) .1
       (record { twoValued = good .twoValued; obeys = complete (bookOf t) o (good .twoValued); satisfies = good .satisfied })
     where
       slices : Absent (sliceTest (claimSlices t (wellFoundedModel (bookOf t) o) (stagesOf (bookOf t) o)))

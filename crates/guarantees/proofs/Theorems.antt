@@ -11,11 +11,13 @@ use Rattle.wellfounded.specs.Stages.{wellFoundedModel, stageOf, Setting, SameSe
 use Rattle.wellfounded.specs.Levels.{levelAt}
 use Rattle.wellfounded.specs.Definitions.{Definition}
 use Rattle.wellfounded.proofs.Definitions.{open-below}
+use Rattle.wellfounded.proofs.Soundness.{same-setting-refl}
 use Rattle.tables.specs.declared.Fault.{Fault}
 use Rattle.tables.specs.declared.Fault.the-variants.{Undecided}
 use Rattle.tables.specs.declared.Verdict.{Verdict}
 use Rattle.tables.specs.declared.Verdict.the-variants.{Accepted, Refused}
 use Rattle.tables.specs.Faults.{Absent, firstFault, numberOf, positionOf, faultNumber, RefusedBy}
+use Rattle.tables.specs.Rows.{headsRule, isDeclared}
 use Rattle.tables.specs.Sound.{Tables, bookOf, Sound}
 use Rattle.tables.proofs.Faults.{refused-by, by-refused}
 use Rattle.tables.proofs.Numbers.{zero-accepted, number-refused}
@@ -23,9 +25,10 @@ use Rattle.checker.specs.Check.{checkOf}
 use Rattle.checker.proofs.Theorems
 use Rattle.evaluator.specs.Evaluate.{settingTest, modelTests, modelFault, isMade, Evaluation, evaluated, evaluateOf, Answers}
 use Rattle.evaluator.proofs.SettingFault.{setting-absent, absent-setting, absent-zeros}
-use Rattle.guarantees.specs.Settings.{LentSetting, makerSlices, stopTests, Good, Made, Unwritten, MadeAndChecked}
+use Rattle.guarantees.specs.Settings.{LentSetting, makerSlices, stopTests, FalseAtOne, Good, Made, Unwritten, MadeAndChecked}
 use Rattle.guarantees.proofs.Making.{undecided-at, lent-passes, passed-made, refused-stopped, verdict-is, stopped-by, made-by}
 use Rattle.guarantees.proofs.Making.{accepted-good, good-accepted, good-checked}
+use Rattle.guarantees.proofs.Withdrawn.{ruleless-false, declared-defined, headless-ruleless}
 
 -- ── Demand 3, of accepted claims ──
 
@@ -63,6 +66,23 @@ pub others-refused :
     (t : Tables) (o values levels : List ℕ) → (Good t o → ⊥) → SameSetting (bookOf t) o values →
     numberOf (checkOf t values levels) ≡ 0 → ⊥
 others-refused t o values levels bad has accepted = bad (accepted-is-good t values levels accepted o has)
+
+-- ── Withdrawn rules ──
+
+-- A declared atom that heads no rule, for every content of the tables.
+module _ (t : Tables) (atom : ℕ) (below : atom < t .atoms) (declared : isDeclared (t .marks) atom ≡ true) (none : headsRule (t .rules) atom ≡ false) where
+  -- It is false at stage 1 whatever the setting: striking its rules does not make it open.
+  pub withdrawn-false : (o : List ℕ) → FalseAtOne (bookOf t) o atom
+  withdrawn-false o = ruleless-false (bookOf t) o atom (declared-defined t atom below declared) (headless-ruleless t atom none)
+
+  -- No claim in which it is true is accepted,
+  pub withdrawn-claimed : (values levels : List ℕ) → numberOf (checkOf t values levels) ≡ 0 → valueAt values atom ≡ 0
+  withdrawn-claimed values levels accepted =
+      ap (λ (v : List ℕ). valueAt v atom) (sym (accepted-model t values levels accepted values (same-setting-refl (bookOf t) values))) ∙ withdrawn-false values .inModel
+
+  -- and open values that set it are refused.
+  pub withdrawn-unset : (o : List ℕ) → Absent (settingTest (bookOf t) o) → valueAt o atom ≡ 0
+  withdrawn-unset o passed = absent-zeros (bookOf t) o passed atom (declared-defined t atom below declared)
 
 -- ── The maker on sound tables, lent a setting o, whatever values v, levels l and work w hold on entry ──
 
@@ -114,7 +134,7 @@ module _ (t : Tables) (o v l w : List ℕ) (sound : Sound t (makerSlices t o v l
   made-claim-exactly =
       rw is-evaluated (
         λ zero. let right = Theorems.accepted-right t _ _ zero in record { twoValued = right .twoValued; satisfied = right .satisfies },
-        λ good. good-checked t o good (sound .tables),
+        λ good. good-checked t o good sound,
       )
 
 -- ── Demand 2, of the maker on any content ──
@@ -138,7 +158,7 @@ module _ (t : Tables) (o v l w : List ℕ) where
     λ r. let e = verdict-is t o v l w ∙ by-refused _ fault position r in (ap numberOf e, ap positionOf e),
   )
 
-  -- A fault of 11 to 17 or 21 is answered, nothing is written and rounds is 0,
+  -- A fault of 11 to 17, 31 or 21 is answered, nothing is written and rounds is 0,
   pub stopped :
       (fault : Fault) (position : ℕ) → firstFault (stopTests t o v l w) ≡ Refused fault position →
       (evaluateOf t o v l w .verdict ≡ Refused fault position) × Unwritten v l w (evaluateOf t o v l w)

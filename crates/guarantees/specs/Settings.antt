@@ -1,4 +1,4 @@
--- The words in which the meaning of an accepted claim is promised (demand 3 of the paper), and what the maker leaves.
+-- The words in which the meaning of an accepted claim is promised (demand 3 of the paper), what the maker leaves, and what a withdrawn rule leaves.
 use Prim.Native.Nat.{ℕ}
 use mathlib.Core.Path.{_≡_}
 use mathlib.Core.Logic.{_↔_}
@@ -7,7 +7,7 @@ use mathlib.Core.List.{List}
 use lib.ListN.{length, replicate}
 use Rattle.wellfounded.specs.Literals.{valueAt}
 use Rattle.wellfounded.specs.Definitions.{Definition, isDefined}
-use Rattle.wellfounded.specs.Stages.{closure, wellFoundedModel, stagesOf, TwoValued, Setting}
+use Rattle.wellfounded.specs.Stages.{stage, closure, wellFoundedModel, stageOf, stagesOf, TwoValued, Setting}
 use Rattle.tables.specs.declared.Verdict.{Verdict}
 use Rattle.tables.specs.Faults.{Test, numberOf}
 use Rattle.tables.specs.Sound.{Tables, bookOf, Slice, Sound}
@@ -24,9 +24,15 @@ pub record LentSetting (d : Definition) (o : List ℕ) : Type 0 where
 abbrev pub makerSlices : Tables → List ℕ → List ℕ → List ℕ → List ℕ → List Slice
 makerSlices t o v l w = evaluationSlices (t .atoms) (length o) (length v) (length l) (length w)
 
--- The faults 11 to 17 and 21, which stop the maker, of the tables, the open values o, and values v, levels l and work w.
+-- The faults 11 to 17, 31 and 21, which stop the maker, of the tables, the open values o, and values v, levels l and work w.
 unfoldable pub stopTests : Tables → List ℕ → List ℕ → List ℕ → List ℕ → List Test
 stopTests t o v l w = refusalTests t o (makerSlices t o v l w)
+
+-- The atom is false at stage 1, which is its stage, and so in the well-founded model.
+pub record FalseAtOne (d : Definition) (o : List ℕ) (atom : ℕ) : Type 0 where
+  pub atStage : valueAt (stage d o 1) atom ≡ 0
+  pub inModel : valueAt (wellFoundedModel d o) atom ≡ 0
+  pub itsStage : stageOf d o atom ≡ 1
 
 -- The well-founded model for the setting is two-valued and satisfies all clauses and load lines.
 pub record Good (t : Tables) (o : List ℕ) : Type 0 where

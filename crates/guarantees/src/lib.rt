@@ -22,6 +22,7 @@ pub fn evaluate_and_check(
     loads: &[i32],
     load_literals: &[u16],
     minutes: &[i16],
+    marks: &[u8],
     open_values: &[u8],
     values: &mut [u8],
     levels: &mut [u16],
@@ -29,7 +30,7 @@ pub fn evaluate_and_check(
 ) -> Checked
     ensures { λ r. ⌜ MadeAndChecked
         (lent atoms (now (rules .entry)) (now (literals .entry)) (now (clauses .entry)) (now (loads .entry)) (now («load_literals» .entry))
-        (now (minutes .entry)))
+        (now (minutes .entry)) (now (marks .entry)))
         (now («open_values» .entry)) (now (values .entry)) (now (levels .entry)) (now (work .entry))
         (r .made) (r .rounds) (r .checked) (now (values .exit)) (now (levels .exit)) (now (work .exit)) ⌝ }
 {
@@ -41,6 +42,7 @@ pub fn evaluate_and_check(
         loads,
         load_literals,
         minutes,
+        marks,
         open_values,
         values,
         levels,
@@ -54,6 +56,7 @@ pub fn evaluate_and_check(
         loads,
         load_literals,
         minutes,
+        marks,
         values,
         levels,
     );

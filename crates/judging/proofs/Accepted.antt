@@ -20,7 +20,7 @@ use Rattle.judging.specs.declared.reached.Reached.{Reached}
 use Rattle.judging.specs.declared.reached.Space.{Space}
 use Rattle.judging.specs.declared.reached.Judged.{Judged}
 use Rattle.judging.specs.declared.reached.Judged.the-variants.{Passed, Failed}
-use Rattle.judging.specs.States.{nothingYet, inRules, openStood, start, advanced, after, countsWithin, fits}
+use Rattle.judging.specs.States.{nothingYet, atomsStood, openStood, start, advanced, after, countsWithin, fits}
 use Rattle.judging.specs.Judging.{atomBound, numbersWithin, withinLimits, mayFollow, partsInOrder, inOrder, lines, judgeLines, judgeText, maxBytes, formsFrom, formsOf}
 use Rattle.judging.specs.Books.{afterAll, IsBook, BookText, passes, allPass, PassesUpTo}
 use Rattle.judging.proofs.Walking.{judge-passed, forms-all, WalkEnd, accepted, refusedAt, walked}
@@ -56,11 +56,11 @@ module _ (space : Space) (s : Reached) (f : Form) where
   passing-passes p = simp (p .numbers, p .counts, p .follows, p .ordered, p .held)
 
 -- Once an atoms form stood, the number of atoms stays.
-size-after : (s : Reached) (f : Form) (fs : List Form) → inRules ≤ s .phase → follows s (f ∷ fs) ≡ true → s .size ≡ after s f .size
+size-after : (s : Reached) (f : Form) (fs : List Form) → atomsStood ≤ s .phase → follows s (f ∷ fs) ≡ true → s .size ≡ after s f .size
 unfolding after advanced
 size-after s f fs l h = rw (follows-here s f fs h .noAtoms l)
 
-size-kept : (s : Reached) (fs : List Form) → inRules ≤ s .phase → follows s fs ≡ true → s .size ≡ afterAll s fs .size
+size-kept : (s : Reached) (fs : List Form) → atomsStood ≤ s .phase → follows s fs ≡ true → s .size ≡ afterAll s fs .size
 unfolding afterAll
 size-kept s [] l h = refl
 size-kept s (f ∷ fs) l h = size-after s f fs l h ∙ size-kept (after s f) fs (phase-on s f fs h) (follows-later s f fs h)
@@ -71,12 +71,12 @@ follows-end s [] h = leb-true _ _ h
 follows-end s (f ∷ fs) h = follows-end (after s f) fs (follows-later s f fs h)
 
 -- A form that may follow is tested alike in two states that agree on the number of atoms.
-module _ (s t : Reached) (agree : inRules ≤ s .phase → s .size ≡ t .size) (stood : inRules ≤ t .phase) where
-  bound-same : inRules ≤ s .phase → atomBound s ≡ atomBound t
+module _ (s t : Reached) (agree : atomsStood ≤ s .phase → s .size ≡ t .size) (stood : atomsStood ≤ t .phase) where
+  bound-same : atomsStood ≤ s .phase → atomBound s ≡ atomBound t
   unfolding atomBound
   bound-same l = rw (ne-eqb (s .phase) nothingYet (λ e. omega arith), ne-eqb (t .phase) nothingYet (λ e. omega arith)) (agree l)
 
-  -- An atoms form names no open atoms; before every other form that may follow one stood.
+  -- An atoms form names no atoms one by one; before every other form that may follow one stood.
   numbers-same : (f : Form) → mayFollow (kindIn f) (s .phase) ≡ true → numbersWithin s f ≡ numbersWithin t f
   unfolding numbersWithin all sameKind kindNumber
   numbers-same f h = step (sameKind (kindIn f) Atoms) refl
@@ -123,8 +123,8 @@ module _ (space : Space) where
   passed-tested s (f ∷ fs) g h =
       let here = passing space s f (first (passes space s f) _ h) in
       let later = passed-tested (after s f) fs (second (mayFollow (kindIn f) (s .phase)) _ g) (second (passes space s f) _ h) in
-      let end : inRules ≤ afterAll (after s f) fs .phase = omega (arith, follows-end s (f ∷ fs) g) in
-      let agree : inRules ≤ s .phase → s .size ≡ afterAll (after s f) fs .size = (λ l. size-kept s (f ∷ fs) l g) in
+      let end : atomsStood ≤ afterAll (after s f) fs .phase = omega (arith, follows-end s (f ∷ fs) g) in
+      let agree : atomsStood ≤ s .phase → s .size ≡ afterAll (after s f) fs .size = (λ l. size-kept s (f ∷ fs) l g) in
       record {
         numbers = both _ _ (sym (numbers-same s _ agree end f (here .follows)) ∙ here .numbers) (later .numbers);
         ordered = both _ _ (sym (parts-same s _ agree end f (here .follows)) ∙ here .ordered) (later .ordered);
@@ -139,8 +139,8 @@ module _ (space : Space) where
       let end = afterAll (after s f) fs in
       let may = first (mayFollow (kindIn f) (s .phase)) _ g in
       let onwards = second (mayFollow (kindIn f) (s .phase)) _ g in
-      let stood : inRules ≤ end .phase = omega (arith, follows-end s (f ∷ fs) g) in
-      let agree : inRules ≤ s .phase → s .size ≡ afterAll (after s f) fs .size = (λ l. size-kept s (f ∷ fs) l g) in
+      let stood : atomsStood ≤ end .phase = omega (arith, follows-end s (f ∷ fs) g) in
+      let agree : atomsStood ≤ s .phase → s .size ≡ afterAll (after s f) fs .size = (λ l. size-kept s (f ∷ fs) l g) in
       let rest : Tested (after s f) fs = record { numbers = second (numbersWithin end f) _ (t .numbers); ordered = second (partsInOrder end f) _ (t .ordered) } in
       both (passes space s f) _
       (passing-passes space s f (record {

@@ -78,7 +78,7 @@ module _ (space : Space) (s : Reached) (size parts : ℕ) (fitted : CountsFit sp
       (leb (s .rules + ruleWidth) (space .rules) && leb (s .literals + parts) (space .literals))
       ≡ fits space (added s Rule size parts)
   unfolding added advanced phaseAfter sameKind kindNumber fits everyTable countIn roomIn valuesCounted levelsCounted
-  rule-space = simp (add-zero, clausesFit, loadsFit, termsFit, minutesFit, noneFits (space .values), noneFits (space .levels), and-true)
+  rule-space = simp (add-zero, clausesFit, loadsFit, termsFit, minutesFit, noneFits (space .marks), noneFits (space .values), noneFits (space .levels), and-true)
 
   pub clause-limits :
       (leb (s .literals + parts) maxLiterals && leb (s .clauses + clauseWidth) (maxClauseRows * clauseWidth))
@@ -90,7 +90,7 @@ module _ (space : Space) (s : Reached) (size parts : ℕ) (fitted : CountsFit sp
       (leb (s .literals + parts) (space .literals) && leb (s .clauses + clauseWidth) (space .clauses))
       ≡ fits space (added s Clause size parts)
   unfolding added advanced phaseAfter sameKind kindNumber fits everyTable countIn roomIn valuesCounted levelsCounted
-  clause-space = simp (add-zero, rulesFit, loadsFit, termsFit, minutesFit, noneFits (space .values), noneFits (space .levels), and-true)
+  clause-space = simp (add-zero, rulesFit, loadsFit, termsFit, minutesFit, noneFits (space .marks), noneFits (space .values), noneFits (space .levels), and-true)
 
   pub load-limits :
       (leb (s .loads + loadWidth) (maxLoadRows * loadWidth) && leb (s .terms + parts) maxTerms)
@@ -102,7 +102,7 @@ module _ (space : Space) (s : Reached) (size parts : ℕ) (fitted : CountsFit sp
       (leb (s .loads + loadWidth) (space .loads) && leb (s .terms + parts) (space .«load_literals») && leb (s .terms + parts) (space .minutes))
       ≡ fits space (added s Load size parts)
   unfolding added advanced phaseAfter sameKind kindNumber fits everyTable countIn roomIn valuesCounted levelsCounted
-  load-space = simp (add-zero, rulesFit, literalsFit, clausesFit, noneFits (space .values), noneFits (space .levels), and-true)
+  load-space = simp (add-zero, rulesFit, literalsFit, clausesFit, noneFits (space .marks), noneFits (space .values), noneFits (space .levels), and-true)
 
   -- The other kinds add to no table that grows from line to line.
   module _ (kind : Kind) (noRule : sameKind kind Rule ≡ false) (noClause : sameKind kind Clause ≡ false) (noLoad : sameKind kind Load ≡ false) where
@@ -128,15 +128,17 @@ module _ (space : Space) (s : Reached) (size parts : ℕ) (fitted : CountsFit sp
           loadsFit,
           termsFit,
           minutesFit,
+          noneFits (space .marks),
           noneFits (space .values),
           noneFits (space .levels),
         )
 
-  pub open-space : leb (s .size) (space .values) ≡ fits space (added s Open size parts)
+  pub open-space : (leb (s .size) (space .marks) && leb (s .size) (space .values)) ≡ fits space (added s Open size parts)
   unfolding added advanced phaseAfter sameKind kindNumber fits everyTable countIn roomIn valuesCounted levelsCounted
   open-space =
       simp (add-zero, rulesFit, literalsFit, clausesFit, loadsFit, termsFit, minutesFit, noneFits (space .levels), and-true)
 
-  pub claim-space : (leb (s .size) (space .values) && leb (s .size) (space .levels)) ≡ fits space (added s Claim size parts)
+  pub claim-space :
+      (leb (s .size) (space .marks) && leb (s .size) (space .values) && leb (s .size) (space .levels)) ≡ fits space (added s Claim size parts)
   unfolding added advanced phaseAfter sameKind kindNumber fits everyTable countIn roomIn valuesCounted levelsCounted
   claim-space = simp (add-zero, rulesFit, literalsFit, clausesFit, loadsFit, termsFit, minutesFit)

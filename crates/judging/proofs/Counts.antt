@@ -74,12 +74,12 @@ unfolding afterAll
 counts-before s [] t = t
 counts-before s (f ∷ fs) t = within-counts s (counted-before (form-grows s f) (counts-within _ (counts-before (after s f) fs t)))
 
--- Before a state form neither values nor levels are counted.
+-- Before a state form neither marks nor values nor levels are counted.
 counts-grow : {s t : Reached} → s .phase ≤ inLoads → Grows s t → (table : Table) → countIn s table ≤ countIn t table
 unfolding countIn
 counts-grow {s} {t} early g =
     each-table (λ table. countIn s table ≤ countIn t table) (g .rules) (g .literals) (g .clauses) (g .loads) (g .terms) (g .terms)
-    (rw (values-early s (omega arith)) (omega arith)) (rw (levels-early s (omega arith)) (omega arith))
+    (rw (values-early s (omega arith)) (omega arith)) (rw (values-early s (omega arith)) (omega arith)) (rw (levels-early s (omega arith)) (omega arith))
 
 -- The counts within the lent tables, table by table.
 module _ (space : Space) where

@@ -1,4 +1,4 @@
--- Laws of the limits of numbers: what they say of the number of atoms and of open atoms.
+-- Laws of the limits of numbers: what they say of the number of atoms and of named atoms.
 -- Assumes nothing.
 use Prim.Native.Nat.{_≤_}
 use mathlib.Core.Path.{_≡_, refl}

@@ -11,6 +11,7 @@ use borrow.Author.Tests.{leb-true, leb-false, le-leb, lt-leb}
 use Rattle.wellfounded.proofs.Tests.{first, second, clash}
 use Rattle.tables.specs.Limits.{maxAtoms}
 use Rattle.tables.specs.declared.Fault.{Fault}
+use Rattle.tables.specs.Faults.{faultNumber}
 use Rattle.tables.specs.declared.Fault.the-variants.{Malformed, OutsideLimits, OutOfOrder, NoSpace}
 use Rattle.format.specs.Forms.{Form, lineEnd, render, renderAll}
 use Rattle.format.specs.Parse.{Reading, got, refused, readLine}
@@ -87,6 +88,32 @@ module _ (space : Space) (text : List ℕ) (fault : Fault) (at : ℕ) where
       judged-after (k .short) (k .forms) [] (k .passing) (k .whole ∙ sym (append-nil (renderAll (k .forms))))
       ∙ rw (lt-leb openStood (afterAll start (k .forms) .phase) (k .missing), k .faultIs, k .position, k .whole)
 
+-- A form is refused with a number of 2 to 4,
+form-low : (space : Space) (s : Reached) (f : Form) (fault : Fault) → judgeForm space s f ≡ stop fault → faultNumber fault ≤ 4
+unfolding judgeForm
+form-low space s f fault h = step (withinLimits s f) (inOrder s f) (fits space (after s f)) h
+  where
+    low : (g : Fault) → stop g ≡ stop fault → faultNumber g ≤ 4 → faultNumber fault ≤ 4
+    low g e l = let same : g ≡ fault = cc in rw same at l
+
+    step :
+        (a b c : Bool) → cond a (cond b (cond c (on (after s f)) (stop NoSpace)) (stop OutOfOrder)) (stop OutsideLimits) ≡ stop fault →
+        faultNumber fault ≤ 4
+    step true true true e = let z : _≡_ {A = ℕ} 0 1 = cc in absurd (omega arith)
+    step true true false e = low NoSpace e (omega arith)
+    step true false c e = low OutOfOrder e (omega arith)
+    step false b c e = low OutsideLimits e (omega arith)
+
+-- and a text with one of 1 to 4.
+pub refused-low : (space : Space) (text : List ℕ) (fault : Fault) (at : ℕ) → judgeText space text ≡ Failed fault at → faultNumber fault ≤ 4
+refused-low space text fault at e = step (refused-first space text fault at e)
+  where
+    step : FirstRefused space text fault at → faultNumber fault ≤ 4
+    step (tooLong k) = rw (k .faultIs) (omega arith)
+    step (noForm k) = rw (k .faultIs) (omega arith)
+    step (notPassing k) = form-low space _ (k .form) fault (k .stopped)
+    step (noState k) = rw (k .faultIs) (omega arith)
+
 -- A form is refused for space exactly if it is within its limits and in order.
 module _ (space : Space) (s : Reached) (f : Form) where
   no-space-form : judgeForm space s f ≡ stop NoSpace → (withinLimits s f ≡ true) × (inOrder s f ≡ true) × (fits space (after s f) ≡ false)
@@ -148,7 +175,7 @@ unfolding countIn fullSize
 counts-full s c l =
     let n = counts-within s c in
     each-table (λ table. countIn s table ≤ fullSize table) (n .rules) (n .literals) (n .clauses) (n .loads) (n .terms) (n .terms)
-    (omega (arith, values-few s)) (omega (arith, levels-few s))
+    (omega (arith, values-few s)) (omega (arith, values-few s)) (omega (arith, levels-few s))
 
 module _ (space : Space) where
   full-held : (s : Reached) → FullSpace space → countsWithin s ≡ true → s .size ≤ maxAtoms → fits space s ≡ true

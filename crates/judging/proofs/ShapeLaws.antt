@@ -12,7 +12,7 @@ use Rattle.wellfounded.specs.Lists.{all}
 use Rattle.wellfounded.proofs.Tests.{first, second}
 use Rattle.tables.specs.Limits.{maxAtoms}
 use Rattle.tables.specs.declared.Fault.the-variants.{OutsideLimits, OutOfOrder, NoSpace}
-use Rattle.format.specs.declared.kinds.Kind.the-variants.{Rule, Clause, Load, Open, Claim}
+use Rattle.format.specs.declared.kinds.Kind.the-variants.{Rule, Clause, Load, Open, Claim, Defined}
 use Rattle.format.specs.Forms.{Form, render}
 use Rattle.format.specs.Views.{viewOf, kindIn, kindNumber, sameKind, ofKind}
 use Rattle.format.proofs.ViewLaws.{same-kind, lists-by-kind, partsAltogether, lists-rendered}
@@ -64,7 +64,9 @@ module _ (f : Form) where
   -- They are no more than the bytes of the form's line.
   pub parts-few : partsIn (viewOf f) ≤ length (render f)
   unfolding partsIn
-  parts-few = step (sameKind (kindIn f) Rule || sameKind (kindIn f) Clause) (sameKind (kindIn f) Load) (sameKind (kindIn f) Open) (lists-rendered f)
+  parts-few =
+      step (sameKind (kindIn f) Rule || sameKind (kindIn f) Clause) (sameKind (kindIn f) Load)
+      (sameKind (kindIn f) Open || sameKind (kindIn f) Defined) (lists-rendered f)
     where
       step :
           (a b c : Bool) → partsAltogether (viewOf f) ≤ length (render f) →

@@ -10,7 +10,7 @@ use Rattle.wellfounded.proofs.Tests.{first, second}
 use Rattle.tables.specs.Limits.{maxAtoms}
 use Rattle.tables.specs.declared.Fault.the-variants.{OutsideLimits, OutOfOrder, NoSpace}
 use Rattle.format.specs.declared.kinds.Kind.{Kind}
-use Rattle.format.specs.declared.kinds.Kind.the-variants.{Atoms, Rule, Clause, Load, Open, Claim, Unknown}
+use Rattle.format.specs.declared.kinds.Kind.the-variants.{Atoms, Rule, Clause, Load, Open, Claim, Defined, Unknown}
 use Rattle.format.specs.Forms.{Form}
 use Rattle.format.specs.Views.{viewOf, kindIn, kindNumber, sameKind}
 use Rattle.judging.specs.declared.reached.Reached.{Reached}
@@ -37,7 +37,7 @@ after-size s f l t = step (sameKind (kindIn f) Atoms)
     step true = size-limit s f (first _ _ t)
     step false = l
 
--- Open atoms have a bound within the limits of a book.
+-- Named atoms have a bound within the limits of a book.
 pub bound-most : (s : Reached) → s .size ≤ maxAtoms → atomBound s ≤ maxAtoms
 unfolding atomBound
 bound-most s l = step (eqb (s .phase) nothingYet)
@@ -88,6 +88,7 @@ kind-counts Clause n size = (refl, refl)
 kind-counts Load n size = (refl, refl)
 kind-counts Open n size = (refl, refl)
 kind-counts Claim n size = (refl, refl)
+kind-counts Defined n size = (refl, refl)
 kind-counts Unknown n size = (refl, refl)
 
 module _ (s : Reached) (f : Form) where

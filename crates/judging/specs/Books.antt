@@ -7,7 +7,7 @@ use lib.ListN.{length}
 use Rattle.wellfounded.specs.Lists.{all}
 use Rattle.tables.specs.declared.Fault.{Fault}
 use Rattle.tables.specs.declared.Fault.the-variants.{Malformed, OutsideLimits, OutOfOrder}
-use Rattle.format.specs.declared.kinds.Kind.the-variants.{Atoms, Rule, Clause, Load, Open, Claim}
+use Rattle.format.specs.declared.kinds.Kind.the-variants.{Atoms, Rule, Clause, Load, Open, Claim, Defined}
 use Rattle.format.specs.Forms.{Form, lineEnd, render, renderAll}
 use Rattle.format.specs.Views.{ofKind}
 use Rattle.judging.specs.declared.reached.Reached.{Reached}
@@ -25,29 +25,33 @@ afterAll s (f ∷ fs) = afterAll (after s f) fs
 unfoldable pub isState : Form → Bool
 isState f = ofKind Open f || ofKind Claim f
 
--- The sequence of a book: its atoms, then rules, clauses and load lines, any number of each, and one state form at the end.
+-- The sequence of a book: its atoms, then at most one defined form, then rules, clauses and load lines, any number of each, and one state form at
+-- the end.
 pub record InSequence (fs : List Form) : Type 0 where
   pub atoms : Form
+  pub defined : List Form
   pub rules : List Form
   pub clauses : List Form
   pub loads : List Form
   pub state : Form
   pub areAtoms : ofKind Atoms atoms ≡ true
+  pub areDefined : all (ofKind Defined) defined ≡ true
+  pub oneDefined : length defined ≤ 1
   pub areRules : all (ofKind Rule) rules ≡ true
   pub areClauses : all (ofKind Clause) clauses ≡ true
   pub areLoads : all (ofKind Load) loads ≡ true
   pub tellsState : isState state ≡ true
-  pub whole : fs ≡ atoms ∷ (rules ++ (clauses ++ (loads ++ (state ∷ []))))
+  pub whole : fs ≡ atoms ∷ (defined ++ (rules ++ (clauses ++ (loads ++ (state ∷ [])))))
 
 -- Forms that are a book which the lent tables hold. Numbers and parts are tested in the state that is reached at the end; of it these
 -- tests look only at N and at whether an atoms line stood.
 pub record IsBook (space : Space) (fs : List Form) : Type 0 where
   pub sequence : InSequence fs
-  -- Every number is within its limit, and open atoms lie below N.
+  -- Every number is within its limit, and named atoms lie below N.
   pub numbers : all (numbersWithin (afterAll start fs)) fs ≡ true
   -- Rows, literals and terms are within the limits of a book.
   pub counts : countsWithin (afterAll start fs) ≡ true
-  -- Open atoms rise, and claim pairs are N in number.
+  -- Named atoms rise, and claim pairs are N in number.
   pub ordered : all (partsInOrder (afterAll start fs)) fs ≡ true
   -- Each lent table has room for what the forms add to it.
   pub held : fits space (afterAll start fs) ≡ true

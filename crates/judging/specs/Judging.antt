@@ -10,7 +10,7 @@ use Rattle.tables.specs.declared.Fault.{Fault}
 use Rattle.tables.specs.declared.Fault.the-variants.{Malformed, OutsideLimits, OutOfOrder, NoSpace}
 use Rattle.tables.specs.Limits.{maxAtoms, maxMinutes, maxBound, maxValue, maxLevel}
 use Rattle.format.specs.declared.kinds.Kind.{Kind}
-use Rattle.format.specs.declared.kinds.Kind.the-variants.{Atoms, Rule, Clause, Load, Open, Claim, Unknown}
+use Rattle.format.specs.declared.kinds.Kind.the-variants.{Atoms, Rule, Clause, Load, Open, Claim, Defined, Unknown}
 use Rattle.format.specs.Forms.{LiteralText, TermText, PairText, Form, lineEnd}
 use Rattle.format.specs.Views.{viewOf, kindIn, ofKind}
 use Rattle.format.specs.Parse.{Reading, got, refused, parse}
@@ -18,7 +18,7 @@ use Rattle.judging.specs.declared.reached.Reached.{Reached}
 use Rattle.judging.specs.declared.reached.Space.{Space}
 use Rattle.judging.specs.declared.reached.Judged.{Judged}
 use Rattle.judging.specs.declared.reached.Judged.the-variants.{Passed, Failed}
-use Rattle.judging.specs.States.{nothingYet, inRules, inClauses, inLoads, openStood, start, after, countsWithin, fits}
+use Rattle.judging.specs.States.{nothingYet, atomsStood, inRules, inClauses, inLoads, openStood, start, after, countsWithin, fits}
 
 -- 2: numbers and counts within their limits. Atoms of heads and literals are judged against the largest book, not against N.
 unfoldable pub literalWithin : LiteralText → Bool
@@ -33,7 +33,7 @@ pairWithin p = leb (p .value) maxValue && leb (p .level) maxLevel
 unfoldable pub boundWithin : ℤ → Bool
 boundWithin bound = leb (natAbs bound) maxBound
 
--- Open atoms lie below N, and before an atoms line below the most atoms that a book has.
+-- The atoms that an open or a defined form names lie below N, and before an atoms line below the most atoms that a book has.
 unfoldable pub atomBound : Reached → ℕ
 atomBound s = cond (eqb (s .phase) nothingYet) maxAtoms (s .size)
 
@@ -48,17 +48,18 @@ numbersWithin s f =
 unfoldable pub withinLimits : Reached → Form → Bool
 withinLimits s f = numbersWithin s f && countsWithin (after s f)
 
--- 3: each kind of form may follow in some phases; open atoms rise strictly, and there is a claim pair for each atom.
+-- 3: each kind of form may follow in some phases; the atoms that a form names rise strictly, and there is a claim pair for each atom.
 unfoldable pub between : ℕ → ℕ → ℕ → Bool
 between first last phase = leb first phase && leb phase last
 
 unfoldable pub mayFollow : Kind → ℕ → Bool
 mayFollow Atoms phase = eqb phase nothingYet
-mayFollow Rule phase = between inRules inRules phase
-mayFollow Clause phase = between inRules inClauses phase
-mayFollow Load phase = between inRules inLoads phase
-mayFollow Open phase = between inRules inLoads phase
-mayFollow Claim phase = between inRules inLoads phase
+mayFollow Rule phase = between atomsStood inRules phase
+mayFollow Clause phase = between atomsStood inClauses phase
+mayFollow Load phase = between atomsStood inLoads phase
+mayFollow Open phase = between atomsStood inLoads phase
+mayFollow Claim phase = between atomsStood inLoads phase
+mayFollow Defined phase = eqb phase atomsStood
 mayFollow Unknown phase = false
 
 unfoldable pub risesFrom : ℕ → List ℕ → Bool

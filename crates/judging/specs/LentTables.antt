@@ -13,12 +13,13 @@ pub data Table : Type 0 where
   Loads : Table
   LoadLiterals : Table
   Minutes : Table
+  Marks : Table
   Values : Table
   Levels : Table
 
 -- Whether every table passes a test.
 unfoldable pub everyTable : (Table → Bool) → Bool
-everyTable p = p Rules && p Literals && p Clauses && p Loads && p LoadLiterals && p Minutes && p Values && p Levels
+everyTable p = p Rules && p Literals && p Clauses && p Loads && p LoadLiterals && p Minutes && p Marks && p Values && p Levels
 
 -- How many entries a lent table has.
 unfoldable pub roomIn : Space → Table → ℕ
@@ -28,6 +29,7 @@ roomIn space Clauses = space .clauses
 roomIn space Loads = space .loads
 roomIn space LoadLiterals = space .«load_literals»
 roomIn space Minutes = space .minutes
+roomIn space Marks = space .marks
 roomIn space Values = space .values
 roomIn space Levels = space .levels
 
@@ -41,6 +43,7 @@ spaceWith size =
       loads = size Loads;
       «load_literals» = size LoadLiterals;
       minutes = size Minutes;
+      marks = size Marks;
       values = size Values;
       levels = size Levels;
     }
@@ -53,5 +56,6 @@ fullSize Clauses = maxClauseRows * clauseWidth
 fullSize Loads = maxLoadRows * loadWidth
 fullSize LoadLiterals = maxTerms
 fullSize Minutes = maxTerms
+fullSize Marks = maxAtoms
 fullSize Values = maxAtoms
 fullSize Levels = maxAtoms

@@ -7,32 +7,35 @@ use Rattle.tables.specs.Limits.{maxRuleRows, maxClauseRows, maxLiterals, maxLoa
 use Rattle.tables.specs.Rows.{ruleWidth, clauseWidth}
 use Rattle.tables.specs.Loads.{loadWidth}
 use Rattle.format.specs.declared.kinds.Kind.{Kind}
-use Rattle.format.specs.declared.kinds.Kind.the-variants.{Atoms, Rule, Clause, Load, Open, Claim, Unknown}
+use Rattle.format.specs.declared.kinds.Kind.the-variants.{Atoms, Rule, Clause, Load, Open, Claim, Defined, Unknown}
 use Rattle.format.specs.Forms.{Form}
 use Rattle.format.specs.Views.{viewOf, kindIn, sameKind}
 use Rattle.judging.specs.declared.reached.Reached.{Reached}
 use Rattle.judging.specs.declared.reached.Space.{Space}
-use Rattle.judging.specs.LentTables.{Table, Rules, Literals, Clauses, Loads, LoadLiterals, Minutes, Values, Levels, everyTable, roomIn}
+use Rattle.judging.specs.LentTables.{Table, Rules, Literals, Clauses, Loads, LoadLiterals, Minutes, Marks, Values, Levels, everyTable, roomIn}
 
--- The phases of a text: nothing was read yet; the atoms form or a rule was read last, or a clause, or a load line; an open form or a
--- claim stood.
+-- The phases of a text: nothing was read yet; the atoms form was read last; the defined form or a rule was, or a clause, or a load line; an open
+-- form or a claim stood.
 abbrev pub nothingYet : ℕ
 nothingYet = 0
 
+abbrev pub atomsStood : ℕ
+atomsStood = 1
+
 abbrev pub inRules : ℕ
-inRules = 1
+inRules = 2
 
 abbrev pub inClauses : ℕ
-inClauses = 2
+inClauses = 3
 
 abbrev pub inLoads : ℕ
-inLoads = 3
+inLoads = 4
 
 abbrev pub openStood : ℕ
-openStood = 4
+openStood = 5
 
 abbrev pub claimStood : ℕ
-claimStood = 5
+claimStood = 6
 
 -- The phase, the number of atoms, and the entries counted for each table that grows from line to line. Before the first line all are 0.
 unfoldable pub start : Reached
@@ -40,12 +43,13 @@ start = record { phase = nothingYet; size = 0; rules = 0; literals = 0; clauses 
 
 -- The phase that a form of each kind leaves.
 unfoldable pub phaseAfter : Kind → ℕ
-phaseAfter Atoms = inRules
+phaseAfter Atoms = atomsStood
 phaseAfter Rule = inRules
 phaseAfter Clause = inClauses
 phaseAfter Load = inLoads
 phaseAfter Open = openStood
 phaseAfter Claim = claimStood
+phaseAfter Defined = inRules
 phaseAfter Unknown = nothingYet
 
 -- The state after a form of some kind: an atoms form tells the number of atoms, rules, clauses and load lines add a row each, and the
@@ -71,7 +75,7 @@ countsWithin s =
     leb (s .rules) (maxRuleRows * ruleWidth) && leb (s .literals) maxLiterals && leb (s .clauses) (maxClauseRows * clauseWidth)
     && leb (s .loads) (maxLoadRows * loadWidth) && leb (s .terms) maxTerms
 
--- Values are counted once a state form stood, levels once a claim did: one for each atom.
+-- Marks and values are counted once a state form stood, levels once a claim did: one for each atom.
 unfoldable pub valuesCounted : Reached → ℕ
 valuesCounted s = cond (leb openStood (s .phase)) (s .size) 0
 
@@ -86,6 +90,7 @@ countIn s Clauses = s .clauses
 countIn s Loads = s .loads
 countIn s LoadLiterals = s .terms
 countIn s Minutes = s .terms
+countIn s Marks = valuesCounted s
 countIn s Values = valuesCounted s
 countIn s Levels = levelsCounted s
 

@@ -16,18 +16,21 @@ use tables::sizes::MAX_LOAD_ENTRIES;
 use tables::sizes::MAX_RULE_ENTRIES;
 use tables::sizes::MAX_TERMS;
 
-// The phases of a text: nothing was read yet; rules, clauses or load lines were read last; an open form or a claim stood.
+// The phases of a text: nothing was read yet; the atoms form was read last; the defined form or rules were, or clauses, or load lines; an open form
+// or a claim stood.
 pub const NOTHING_YET: usize = 0;
 
-pub const IN_RULES: usize = 1;
+pub const ATOMS_STOOD: usize = 1;
 
-pub const IN_CLAUSES: usize = 2;
+pub const IN_RULES: usize = 2;
 
-pub const IN_LOADS: usize = 3;
+pub const IN_CLAUSES: usize = 3;
 
-pub const OPEN_STOOD: usize = 4;
+pub const IN_LOADS: usize = 4;
 
-pub const CLAIM_STOOD: usize = 5;
+pub const OPEN_STOOD: usize = 5;
+
+pub const CLAIM_STOOD: usize = 6;
 
 // The phase of the text, the number of atoms, and the entries counted for each table that grows from line to line.
 pub struct Reached {
@@ -48,6 +51,7 @@ pub struct Space {
     pub loads: usize,
     pub load_literals: usize,
     pub minutes: usize,
+    pub marks: usize,
     pub values: usize,
     pub levels: usize,
 }
@@ -155,7 +159,7 @@ fn count(space: Space, reached: Reached, kind: Kind, size: usize, parts: usize) 
     let mut fits = true;
     match kind {
         Kind::Atoms => {
-            then.phase = IN_RULES;
+            then.phase = ATOMS_STOOD;
             then.size = size;
         }
         Kind::Rule => {
@@ -169,11 +173,16 @@ fn count(space: Space, reached: Reached, kind: Kind, size: usize, parts: usize) 
         }
         Kind::Open => {
             then.phase = OPEN_STOOD;
-            fits = reached.size <= space.values;
+            fits = (reached.size <= space.marks) & (reached.size <= space.values);
         }
         Kind::Claim => {
             then.phase = CLAIM_STOOD;
-            fits = (reached.size <= space.values) & (reached.size <= space.levels);
+            fits = (reached.size <= space.marks)
+                & (reached.size <= space.values)
+                & (reached.size <= space.levels);
+        }
+        Kind::Defined => {
+            then.phase = IN_RULES;
         }
         Kind::Unknown => {
             then.phase = NOTHING_YET;
@@ -199,16 +208,17 @@ fn may_follow(kind: Kind, phase: usize) -> bool
 {
     match kind {
         Kind::Atoms => phase == NOTHING_YET,
-        Kind::Rule => between(IN_RULES, IN_RULES, phase),
-        Kind::Clause => between(IN_RULES, IN_CLAUSES, phase),
-        Kind::Load => between(IN_RULES, IN_LOADS, phase),
-        Kind::Open => between(IN_RULES, IN_LOADS, phase),
-        Kind::Claim => between(IN_RULES, IN_LOADS, phase),
+        Kind::Rule => between(ATOMS_STOOD, IN_RULES, phase),
+        Kind::Clause => between(ATOMS_STOOD, IN_CLAUSES, phase),
+        Kind::Load => between(ATOMS_STOOD, IN_LOADS, phase),
+        Kind::Open => between(ATOMS_STOOD, IN_LOADS, phase),
+        Kind::Claim => between(ATOMS_STOOD, IN_LOADS, phase),
+        Kind::Defined => phase == ATOMS_STOOD,
         Kind::Unknown => false,
     }
 }
 
-// Whether a form's parts are in order: open atoms rise, and there is a claim pair for each atom.
+// Whether a form's parts are in order: named atoms rise, and there is a claim pair for each atom.
 fn parts_in_order(reached: Reached, kind: Kind, parts: usize, rising: bool) -> bool
     ensures { λ r. ⌜ r ≡ orderOf reached kind parts rising ⌝ }
 {

@@ -38,14 +38,15 @@ pub fn walk(
     loads: &mut [i32],
     load_literals: &mut [u16],
     minutes: &mut [i16],
+    marks: &mut [u8],
     values: &mut [u8],
     levels: &mut [u16],
 ) -> Judged
     ensures { λ r. ⌜ Walked (now (text .entry)) space
         (lentTables (now (rules .entry)) (now (literals .entry)) (now (clauses .entry)) (now (loads .entry)) (now («load_literals» .entry))
-        (now (minutes .entry)) (now (values .entry)) (now (levels .entry))) r
+        (now (minutes .entry)) (now (marks .entry)) (now (values .entry)) (now (levels .entry))) r
         (lentTables (now (rules .exit)) (now (literals .exit)) (now (clauses .exit)) (now (loads .exit)) (now («load_literals» .exit))
-        (now (minutes .exit)) (now (values .exit)) (now (levels .exit))) ⌝ }
+        (now (minutes .exit)) (now (marks .exit)) (now (values .exit)) (now (levels .exit))) ⌝ }
 {
     if MAX_BYTES < text.len() {
         return Judged::Failed(Fault::OutsideLimits, 0);
@@ -63,6 +64,7 @@ pub fn walk(
             loads,
             load_literals,
             minutes,
+            marks,
             values,
             levels,
         );
@@ -89,6 +91,7 @@ pub fn judge(text: &[u8], space: Space) -> Judged
     let mut loads = [0i32; 0];
     let mut load_literals = [0u16; 0];
     let mut minutes = [0i16; 0];
+    let mut marks = [0u8; 0];
     let mut values = [0u8; 0];
     let mut levels = [0u16; 0];
     walk(
@@ -100,6 +103,7 @@ pub fn judge(text: &[u8], space: Space) -> Judged
         &mut loads,
         &mut load_literals,
         &mut minutes,
+        &mut marks,
         &mut values,
         &mut levels,
     )

@@ -6,6 +6,7 @@ use forms::Line;
 use forms::read_atoms_form;
 use forms::read_claim_form;
 use forms::read_clause_form;
+use forms::read_defined_form;
 use forms::read_load_form;
 use forms::read_open_form;
 use forms::read_rule_form;
@@ -34,24 +35,26 @@ pub fn read_form(
     loads: &mut [i32],
     load_literals: &mut [u16],
     minutes: &mut [i16],
+    marks: &mut [u8],
     values: &mut [u8],
     levels: &mut [u16],
 ) -> Line
     requires { ⌜ Ready (now text) at reached ⌝ }
     ensures { λ r. ⌜ Forms reached (now (text .entry)) (readForm (drop at (now (text .entry)))) r
         (λ f. lentTables (now (rules .exit)) (now (literals .exit)) (now (clauses .exit)) (now (loads .exit)) (now («load_literals» .exit))
-        (now (minutes .exit)) (now (values .exit)) (now (levels .exit))
+        (now (minutes .exit)) (now (marks .exit)) (now (values .exit)) (now (levels .exit))
         ≡ store reached (entriesOf reached f)
         (lentTables (now (rules .entry)) (now (literals .entry)) (now (clauses .entry)) (now (loads .entry)) (now («load_literals» .entry))
-        (now (minutes .entry)) (now (values .entry)) (now (levels .entry)))) ⌝ }
+        (now (minutes .entry)) (now (marks .entry)) (now (values .entry)) (now (levels .entry)))) ⌝ }
 {
     match kind_at(text, at) {
-        Kind::Atoms => read_atoms_form(text, at + 6, reached),
+        Kind::Atoms => read_atoms_form(text, at + 6, reached, marks),
         Kind::Rule => read_rule_form(text, at + 5, reached, rules, literals),
         Kind::Clause => read_clause_form(text, at + 7, reached, clauses, literals),
         Kind::Load => read_load_form(text, at + 5, reached, loads, load_literals, minutes),
         Kind::Open => read_open_form(text, at + 5, reached, values),
         Kind::Claim => read_claim_form(text, at + 6, reached, values, levels),
+        Kind::Defined => read_defined_form(text, at + 8, reached, marks),
         Kind::Unknown => Line::NoForm,
     }
 }

@@ -1,4 +1,4 @@
--- Lists of open atoms: the atoms that the code's loop marks as it reads them.
+-- Lists of atoms that a form names: the atoms that the code's loop marks as it reads them.
 -- Assumes nothing.
 use Prim.Native.Nat.{ℕ, suc, _+_, _≤_, _<_}
 use mathlib.Core.Path.{_≡_, refl, sym, ap, _∙_}

@@ -1,4 +1,4 @@
--- Laws of entries stored, of the parts of a list, and of lists of literals, of terms and pairs, and of open atoms.
+-- Laws of entries stored, of the parts of a list, and of lists of literals, of terms and pairs, and of named atoms.
 pub mod StoreLaws
 pub mod PartLaws
 pub mod ListLaws

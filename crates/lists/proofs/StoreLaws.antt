@@ -2,6 +2,7 @@
 -- Assumes nothing.
 use Prim.Native.Nat.{ℕ, suc, _+_, _-_, _≤_, _<_}
 use mathlib.Core.Path.{_≡_, refl, sym, ap, _∙_}
+use mathlib.Core.Logic.{⊎-elim}
 use mathlib.Core.Bool.{Bool, true, false}
 use mathlib.Core.List.{List, [], _∷_}
 use native.Mathlib.Numerals.{add-one}
@@ -14,8 +15,9 @@ use mir.Syntax.{w16, w32}
 use mir.Val.{SFits, toZ, ofZ}
 use mir.Facts.{toZ-ofZ, toZ-pos}
 use borrow.Author.Tests.{lt-ltb, leb-true}
-use Rattle.tables.specs.Limits.{maxMinutes, maxValue}
-use Rattle.lists.specs.internal.Lists.{stored}
+use Rattle.wellfounded.proofs.Lists.{le-or-lt}
+use Rattle.tables.specs.Limits.{maxMinutes}
+use Rattle.lists.specs.internal.Lists.{stored, FarAs}
 
 -- ── One entry ──
 
@@ -81,28 +83,36 @@ load-row entry first second third fourth place start count p q r s fl fh ls lc =
     let f : place + 3 ≡ suc (suc (suc place)) = omega arith in
     rw (s, r, q, p, add-one, e, f, toZ-ofZ fl, toZ-ofZ fh, toZ-pos w32 {n = start} (omega arith), toZ-pos w32 {n = count} (omega arith))
 
--- ── Values put to 0 ──
+-- ── Entries put to 0 ──
 
--- The first `place` of `count` values are 0: with the rest put to 0 the values are those wanted.
-pub record Cleared (before : List ℕ) (count : ℕ) (values : List ℕ) (place : ℕ) : Type 0 where
-  pub low : place ≤ count
-  pub rest : sets values place (replicate (count - place) 0) ≡ sets before 0 (replicate count 0)
+module _ {A : Type 0} where
+  -- Beyond its end nothing is set in a table.
+  sets-beyond : (table xs : List A) (place : ℕ) → length table ≤ place → sets table place xs ≡ table
+  sets-beyond table [] place l = refl
+  sets-beyond table (x ∷ xs) place l = rw (set-out table place x l) (sets-beyond table xs (suc place) (omega arith))
 
-module _ (before : List ℕ) (count : ℕ) where
-  pub cleared-start : Cleared before count before 0
-  cleared-start = record { low = omega arith; rest = let e : count - 0 ≡ count = omega arith in rw e }
+-- The first `place` entries up to `end` are 0: with the rest put to 0 the table is the one wanted.
+pub record Cleared (before : List ℕ) (count end : ℕ) (table : List ℕ) (place : ℕ) : Type 0 where
+  pub far : FarAs count (length before) end
+  pub low : place ≤ end
+  pub rest : sets table place (replicate (count - place) 0) ≡ sets before 0 (replicate count 0)
 
-module _ {before : List ℕ} {count : ℕ} {values : List ℕ} {place : ℕ} where
-  pub cleared-turn :
-      {after : List ℕ} → place < count → after ≡ stored (ltb 0 (suc maxValue)) values place 0 → Cleared before count values place →
-      Cleared before count after (place + 1)
-  unfolding stored
-  cleared-turn l e s =
-      let more : count - place ≡ suc (count - (place + 1)) = omega arith in
-      record { low = omega arith; rest = rw (e, add-one) (rw (more, add-one) at (s .rest)) }
+pub cleared-start : (before : List ℕ) (count end : ℕ) → FarAs count (length before) end → Cleared before count end before 0
+cleared-start before count end far =
+    record { far = far; low = omega arith; rest = let e : count - 0 ≡ count = omega arith in rw e }
 
-  pub cleared-end : count ≤ place → Cleared before count values place → values ≡ sets before 0 (replicate count 0)
-  cleared-end l s = let e : count - place ≡ 0 = omega arith in rw e at (s .rest)
+module _ {before : List ℕ} {count end : ℕ} {table : List ℕ} {place : ℕ} (cleared : Cleared before count end table place) where
+  pub cleared-length : length table ≡ length before
+  cleared-length =
+      sym (length-sets table place (replicate (count - place) 0)) ∙ ap length (cleared .rest) ∙ length-sets before 0 (replicate count 0)
 
-  pub cleared-length : Cleared before count values place → length values ≡ length before
-  cleared-length s = sym (length-sets values place (replicate (count - place) 0)) ∙ ap length (s .rest) ∙ length-sets before 0 (replicate count 0)
+  pub cleared-turn : place < end → Cleared before count end (set table place 0) (place + 1)
+  cleared-turn l =
+      let more : count - place ≡ suc (count - (place + 1)) = omega (arith, cleared .far .counted) in
+      record { far = cleared .far; low = omega arith; rest = rw add-one (rw (more, add-one) at (cleared .rest)) }
+
+  -- At the end either the count is reached or the table has no more entries.
+  pub cleared-end : end ≤ place → table ≡ sets before 0 (replicate count 0)
+  cleared-end l =
+      ⊎-elim (λ none. sym (sets-beyond table (replicate (count - place) 0) place (omega (arith, cleared-length, cleared .low))) ∙ cleared .rest)
+      (λ some. let e : count - place ≡ 0 = omega (arith, cleared .far .stops some) in rw e at (cleared .rest)) (le-or-lt (length before) end)

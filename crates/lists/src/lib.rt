@@ -100,12 +100,12 @@ pub fn read_terms(
     Parts::Listed(count, within, true, next + 1)
 }
 
-// The atoms of an open form, each marked in the values.
-pub fn read_atoms(text: &[u8], at: usize, bound: usize, values: &mut [u8]) -> Parts
+// The atoms that an open or a defined form names, each marked in a table with an entry for each atom.
+pub fn read_atoms(text: &[u8], at: usize, bound: usize, table: &mut [u8]) -> Parts
     requires { ⌜ Inside (now text) at ⌝ }
     requires { ⌜ bound ≤ maxAtoms ⌝ }
     ensures { λ r. ⌜ Lists (now (text .entry)) (λ atom. ltb atom bound) cappedRise (parts readNumber (drop at (now (text .entry)))) r
-        (λ atoms. now (values .exit) ≡ marked atoms (now (values .entry))) ⌝ }
+        (λ atoms. now (table .exit) ≡ marked atoms (now (table .entry))) ⌝ }
 {
     let mut next = at;
     let mut count = 0;
@@ -116,7 +116,7 @@ pub fn read_atoms(text: &[u8], at: usize, bound: usize, values: &mut [u8]) -> Pa
         let Number::Read(atom, after) = read_number(text, next + 1) else {
             return Parts::NoList;
         };
-        store_value(values, atom, 1);
+        store_value(table, atom, 1);
         within = within & (atom < bound);
         rising = rising & (floor <= atom);
         floor = atom + 1;

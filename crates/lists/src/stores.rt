@@ -9,7 +9,7 @@ ghost use lib.Seq.{sets};
 ghost use Rattle.tables.specs.Loads.{loadWidth};
 ghost use Rattle.tables.specs.Rows.{ruleWidth, clauseWidth};
 ghost use Rattle.tables.specs.Limits.{maxMinutes, maxRuleRows, maxClauseRows, maxLoadRows, maxValue};
-ghost use Rattle.lists.specs.internal.Lists.{stored};
+ghost use Rattle.lists.specs.internal.Lists.{stored, FarAs};
 use tables::sizes::MAX_MINUTES;
 use tables::sizes::MAX_VALUE;
 
@@ -97,13 +97,21 @@ pub fn store_load(loads: &mut [i32], place: usize, low: i32, high: i32, start: u
     store_whole(loads, place + 3, count as i32);
 }
 
-// Puts 0 at the first `count` values, as far as there are any.
-pub fn clear_values(values: &mut [u8], count: usize)
-    ensures { λ r. ⌜ now (values .exit) ≡ sets (now (values .entry)) 0 (replicate count 0) ⌝ }
+// The smaller of a count and a length.
+fn as_far_as(count: usize, length: usize) -> usize
+    ensures { λ r. ⌜ FarAs count length r ⌝ }
 {
+    if count < length { count } else { length }
+}
+
+// Puts 0 at the first `count` entries, as far as there are any.
+pub fn clear(table: &mut [u8], count: usize)
+    ensures { λ r. ⌜ now (table .exit) ≡ sets (now (table .entry)) 0 (replicate count 0) ⌝ }
+{
+    let end = as_far_as(count, table.len());
     let mut place = 0;
-    while place < count {
-        store_value(values, place, 0);
+    while place < end {
+        table[place] = 0;
         place += 1;
     }
 }

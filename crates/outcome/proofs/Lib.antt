@@ -1,5 +1,7 @@
--- `Bounds` says how large the parts of an outcome can be, `FullTables` that no text lacks space; `OutcomeLaws` serves the functions.
+-- `Bounds` says how large the parts of an outcome can be, `FullTables` that no text lacks space, `FullMarks` that none has a bad mark, both by `Never`; `OutcomeLaws` serves the functions.
 pub mod Bounds
+pub mod Never
 pub mod FullTables
 pub mod OutcomeLaws
 pub mod Computes
+pub mod FullMarks

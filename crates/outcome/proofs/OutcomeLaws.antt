@@ -8,7 +8,7 @@ use mathlib.Core.List.{List, [], _∷_, _++_}
 use native.Mathlib.Nat.{sub-zero}
 use native.Mathlib.Omega.{arith}
 use lib.Dec.{eqb}
-use lib.ListN.{length, take, drop, length-append, length-drop, take-append-drop}
+use lib.ListN.{length, take, drop, length-append, length-take, length-drop, take-append-drop}
 use lib.Seq.{length-take-le, take-at}
 use borrow.Author.Tests.{eqb-true}
 use Rattle.wellfounded.specs.Lists.{all}
@@ -29,7 +29,7 @@ use Rattle.judging.specs.declared.reached.Reached.{Reached}
 use Rattle.judging.specs.declared.reached.Space.{Space}
 use Rattle.judging.specs.declared.reached.Judged.{Judged}
 use Rattle.judging.specs.declared.reached.Judged.the-variants.{Passed, Failed}
-use Rattle.judging.specs.LentTables.{Table, Rules, Literals, Clauses, Loads, LoadLiterals, Minutes, Values, Levels, fullSize, spaceWith}
+use Rattle.judging.specs.LentTables.{Table, Rules, Literals, Clauses, Loads, LoadLiterals, Minutes, Marks, Values, Levels, fullSize, spaceWith}
 use Rattle.judging.specs.States.{openStood, claimStood, countIn}
 use Rattle.judging.specs.Judging.{judgeText, formsOf}
 use Rattle.judging.proofs.TableLaws.{each-table}
@@ -95,7 +95,11 @@ module _
       let front3 : length (take (t .atoms) work) ≡ t .atoms = length-take-le (t .atoms) work (omega arith) in
       rw same (stopped-comes _ refl (rw (same, front, front2, front3) at a))
 
--- What the parts of a book's tables come to, by its state form. A part begins at 0.
+-- A part that begins at 0 has no more entries than are asked of it.
+pub part-few : {n most : ℕ} (entries : List ℕ) → n ≤ most → length (take (n - 0) entries) ≤ most
+part-few {n} {most} entries few = omega (arith, length-take (n - 0) entries)
+
+-- What the parts of a book's tables come to, by its state form.
 module _ {values levels : List ℕ} {verdict : Verdict} {state : StateForm} {atoms rounds : ℕ} where
   alone-comes :
       (told : StateForm) (v : Verdict) → (verdict ≡ v) × (state ≡ told) × (atoms ≡ 0) × (rounds ≡ 0) →
@@ -118,7 +122,7 @@ module _ {values levels : List ℕ} {verdict : Verdict} {state : StateForm} {ato
       (lent (length (take (book .atoms - 0) (held Values))) (take (book .rules - 0) (held Rules))
       (take (book .literals - 0) (held Literals))
       (take (book .clauses - 0) (held Clauses)) (take (book .loads - 0) (held Loads)) (take (book .terms - 0) (held LoadLiterals))
-      (take (book .terms - 0) (held Minutes)))
+      (take (book .terms - 0) (held Minutes)) (take (book .atoms - 0) (held Marks)))
       (take (book .atoms - 0) (held Values)))
       values levels verdict state atoms rounds valuesAfter levelsAfter →
       GivesOutcome
@@ -133,7 +137,7 @@ module _ {values levels : List ℕ} {verdict : Verdict} {state : StateForm} {ato
       ≡ checkOf
       (lent (book .atoms) (take (book .rules - 0) (held Rules)) (take (book .literals - 0) (held Literals))
       (take (book .clauses - 0) (held Clauses)) (take (book .loads - 0) (held Loads)) (take (book .terms - 0) (held LoadLiterals))
-      (take (book .terms - 0) (held Minutes)))
+      (take (book .terms - 0) (held Minutes)) (take (book .atoms - 0) (held Marks)))
       (take (book .atoms - 0) (held Values)) (take (book .atoms - 0) (held Levels)) →
       (verdict ≡ checked) × (state ≡ ClaimState) × (atoms ≡ 0) × (rounds ≡ 0) →
       GivesOutcome
@@ -155,9 +159,13 @@ module _ (s : Reached) (used held : Contents) (counts : (table : Table) → leng
   unfolding usedIn answerOf countIn
   laid-used = each-laid (λ table. usedIn (answerOf (Passed s)) table ≡ countIn s table) refl refl refl refl refl refl
 
-  used-tables : tablesOf (s .size) (usedParts (answerOf (Passed s)) (filled used held)) ≡ tablesOf (s .size) used
+  used-marks : openStood ≤ s .phase → usedParts (answerOf (Passed s)) (filled used held) Marks ≡ used Marks
+  unfolding usedIn answerOf countIn
+  used-marks e = used-part Marks (sym (values-told s e))
+
+  used-tables : openStood ≤ s .phase → tablesOf (s .size) (usedParts (answerOf (Passed s)) (filled used held)) ≡ tablesOf (s .size) used
   unfolding tablesOf givenAnew
-  used-tables =
+  used-tables e =
       rw (
         used-part Rules (laid-used Rules refl),
         used-part Literals (laid-used Literals refl),
@@ -165,6 +173,7 @@ module _ (s : Reached) (used held : Contents) (counts : (table : Table) → leng
         used-part Loads (laid-used Loads refl),
         used-part LoadLiterals (laid-used LoadLiterals refl),
         used-part Minutes (laid-used Minutes refl),
+        used-marks e,
       )
 
   used-values : openStood ≤ s .phase → usedParts (answerOf (Passed s)) (filled used held) Values ≡ used Values
@@ -185,10 +194,10 @@ module _ (s : Reached) (used held : Contents) (counts : (table : Table) → leng
           (a : Bool) → eqb (s .phase) openStood ≡ a → (b : Bool) → eqb (s .phase) claimStood ≡ b →
           bookOutcome Accepted (cond a OpenState (cond b ClaimState NoState)) (s .size) (usedParts (answerOf (Passed s)) (filled used held))
           ≡ bookOutcome Accepted (cond a OpenState (cond b ClaimState NoState)) (s .size) used
-      step true d b e = rw (used-tables, used-values (omega (arith, eqb-true (s .phase) openStood d)))
+      step true d b e = let opened = eqb-true (s .phase) openStood d in rw (used-tables (omega arith), used-values (omega arith))
       step false d true e =
           let claimed = eqb-true (s .phase) claimStood e in
-          rw (used-tables, used-values (omega arith), used-levels (omega arith))
+          rw (used-tables (omega arith), used-values (omega arith), used-levels (omega arith))
       step false d false e = refl
 
 -- A text that was read: the answer fits the tables afterwards, and their used parts make the outcome of the text.
@@ -196,10 +205,12 @@ pub record Read (text : List ℕ) (book : Book) (afterwards : Contents) : Type 0
   pub fit : FitsBook book afterwards
   pub comes : bookOutcome (book .verdict) (book .state) (book .atoms) (usedParts book afterwards) ≡ outcomeOf text
 
--- Tables of full size, as they were before, hold a value and a level for each atom of the largest book.
-full-levels : (before : Contents) → spaceOf before ≡ fullSpace → (length (before Values) ≡ maxAtoms) × (length (before Levels) ≡ maxAtoms)
+-- Tables of full size, as they were before, hold a mark, a value and a level for each atom of the largest book.
+full-atoms :
+    (before : Contents) → spaceOf before ≡ fullSpace →
+    (length (before Marks) ≡ maxAtoms) × (length (before Values) ≡ maxAtoms) × (length (before Levels) ≡ maxAtoms)
 unfolding spaceOf fullSpace spaceWith fullSize
-full-levels before e = (ap (λ (space : Space). space .values) e, ap (λ (space : Space). space .levels) e)
+full-atoms before e = (ap (λ (space : Space). space .marks) e, ap (λ (space : Space). space .values) e, ap (λ (space : Space). space .levels) e)
 
 passed-fits :
     (s : Reached) (used before : Contents) → ((table : Table) → length (used table) ≡ countIn s table) → s .size ≤ maxAtoms →
@@ -207,7 +218,7 @@ passed-fits :
     FitsBook (answerOf (Passed s)) (filled used before)
 unfolding filled givenAnew usedIn answerOf
 passed-fits s used before counts few full =
-    let long = full-levels before full in
+    let long = full-atoms before full in
     let laid : (table : Table) → givenAnew table ≡ false → usedIn (answerOf (Passed s)) table ≤ length (over (used table) (before table)) =
     (λ table e. omega (arith, laid-used s used before counts table e, counts table, over-used (used table) (before table))) in
     record {
@@ -215,7 +226,7 @@ passed-fits s used before counts few full =
       each =
           each-table (λ table. usedIn (answerOf (Passed s)) table ≤ length (over (used table) (before table))) (laid Rules refl) (laid Literals refl)
           (laid Clauses refl) (laid Loads refl) (laid LoadLiterals refl) (laid Minutes refl)
-          (omega (arith, over-held (used Values) (before Values))) (omega (arith, over-held (used Levels) (before Levels)));
+          (omega (arith, over-held (used Marks) (before Marks))) (omega (arith, over-held (used Values) (before Values))) (omega (arith, over-held (used Levels) (before Levels)));
     }
 
 passed-read :
@@ -242,7 +253,7 @@ failed-read text before fault at e =
             few = omega arith;
             each =
                 each-table (λ table. usedIn (answerOf (Failed fault at)) table ≤ length (before table)) (omega arith) (omega arith) (omega arith)
-                (omega arith) (omega arith) (omega arith) (omega arith) (omega arith);
+                (omega arith) (omega arith) (omega arith) (omega arith) (omega arith) (omega arith);
           };
       comes = rw e;
     }

@@ -10,7 +10,7 @@ use Rattle.checker.specs.Check.{checkOf}
 use Rattle.evaluator.specs.Evaluate.{evaluationSlices, refusalTests, Evaluation, evaluated}
 use Rattle.format.specs.Forms.{Form}
 use Rattle.judging.specs.declared.reached.Space.{Space}
-use Rattle.judging.specs.LentTables.{Rules, Literals, Clauses, Loads, LoadLiterals, Minutes, Values, Levels, fullSize, spaceWith}
+use Rattle.judging.specs.LentTables.{Rules, Literals, Clauses, Loads, LoadLiterals, Minutes, Marks, Values, Levels, fullSize, spaceWith}
 use Rattle.judging.specs.Judging.{formsOf, judgeText}
 use Rattle.forms.specs.Contents.{Contents}
 use Rattle.forms.specs.Entries.{bookEntries}
@@ -47,7 +47,8 @@ evaluationOutcome t given =
 
 -- The tables that a book's entries make.
 unfoldable pub tablesOf : ℕ → Contents → Tables
-tablesOf atoms used = lent atoms (used Rules) (used Literals) (used Clauses) (used Loads) (used LoadLiterals) (used Minutes)
+tablesOf atoms used =
+    lent atoms (used Rules) (used Literals) (used Clauses) (used Loads) (used LoadLiterals) (used Minutes) (used Marks)
 
 -- Without a state form there is the reader's verdict alone; an open form is evaluated, a claim is checked.
 unfoldable pub bookOutcome : Verdict → StateForm → ℕ → Contents → TextOutcome

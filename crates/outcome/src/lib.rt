@@ -55,6 +55,7 @@ fn evaluate_book(
     loads: &[i32],
     load_literals: &[u16],
     minutes: &[i16],
+    marks: &[u8],
     given: &[u8],
     values: &mut [u8],
     levels: &mut [u16],
@@ -64,7 +65,7 @@ fn evaluate_book(
     ensures { λ r. ⌜ GivesOutcome
         (evaluationOutcome (lent (length (now (given .entry))) (now (rules .entry)) (now (literals .entry))
         (now (clauses .entry)) (now (loads .entry))
-        (now («load_literals» .entry)) (now (minutes .entry))) (now (given .entry)))
+        (now («load_literals» .entry)) (now (minutes .entry)) (now (marks .entry))) (now (given .entry)))
         (now (values .entry)) (now (levels .entry))
         (r .verdict) (r .state) (r .atoms) (r .rounds) (now (values .exit)) (now (levels .exit)) ⌝ }
 {
@@ -78,6 +79,7 @@ fn evaluate_book(
         loads,
         load_literals,
         minutes,
+        marks,
         given,
         &mut values[0..atoms],
         &mut levels[0..atoms],
@@ -114,19 +116,20 @@ fn book_outcome(
     loads: &[i32],
     load_literals: &[u16],
     minutes: &[i16],
+    marks: &[u8],
     given: &[u8],
     given_levels: &[u16],
     values: &mut [u8],
     levels: &mut [u16],
 ) -> Outcome
     requires { ⌜ FitsBook book (lentTables (now rules) (now literals) (now clauses) (now loads) (now «load_literals»)
-        (now minutes) (now given) (now «given_levels»)) ⌝ }
+        (now minutes) (now marks) (now given) (now «given_levels»)) ⌝ }
     requires { ⌜ HoldEveryAtom (now values) (now levels) ⌝ }
     ensures { λ r. ⌜ GivesOutcome
         (bookOutcome (book .verdict) (book .state) (book .atoms)
         (usedParts book (lentTables (now (rules .entry)) (now (literals .entry)) (now (clauses .entry)) (now (loads .entry))
         (now («load_literals» .entry))
-        (now (minutes .entry)) (now (given .entry)) (now («given_levels» .entry)))))
+        (now (minutes .entry)) (now (marks .entry)) (now (given .entry)) (now («given_levels» .entry)))))
         (now (values .entry)) (now (levels .entry))
         (r .verdict) (r .state) (r .atoms) (r .rounds) (now (values .exit)) (now (levels .exit)) ⌝ }
 {
@@ -143,6 +146,7 @@ fn book_outcome(
     let used_loads = &loads[0..load_entries];
     let used_load_literals = &load_literals[0..terms];
     let used_minutes = &minutes[0..terms];
+    let used_marks = &marks[0..atoms];
     let used_given = &given[0..atoms];
     let used_levels = &given_levels[0..atoms];
     let state = book.state;
@@ -155,6 +159,7 @@ fn book_outcome(
             used_loads,
             used_load_literals,
             used_minutes,
+            used_marks,
             used_given,
             values,
             levels,
@@ -169,6 +174,7 @@ fn book_outcome(
                 used_loads,
                 used_load_literals,
                 used_minutes,
+                used_marks,
                 used_given,
                 used_levels,
             ),
@@ -187,6 +193,7 @@ fn full_space() -> Space
         loads: MAX_LOAD_ENTRIES,
         load_literals: MAX_TERMS,
         minutes: MAX_TERMS,
+        marks: MAX_ATOMS,
         values: MAX_ATOMS,
         levels: MAX_ATOMS,
     }
@@ -206,6 +213,7 @@ pub fn outcome_of(text: &[u8], values: &mut [u8], levels: &mut [u16]) -> Outcome
     let mut loads = [0i32; MAX_LOAD_ENTRIES];
     let mut load_literals = [0u16; MAX_TERMS];
     let mut minutes = [0i16; MAX_TERMS];
+    let mut marks = [0u8; MAX_ATOMS];
     let mut given = [0u8; MAX_ATOMS];
     let mut given_levels = [0u16; MAX_ATOMS];
     let judged = walk(
@@ -217,6 +225,7 @@ pub fn outcome_of(text: &[u8], values: &mut [u8], levels: &mut [u16]) -> Outcome
         &mut loads,
         &mut load_literals,
         &mut minutes,
+        &mut marks,
         &mut given,
         &mut given_levels,
     );
@@ -228,6 +237,7 @@ pub fn outcome_of(text: &[u8], values: &mut [u8], levels: &mut [u16]) -> Outcome
         &loads,
         &load_literals,
         &minutes,
+        &marks,
         &given,
         &given_levels,
         values,

@@ -14,6 +14,7 @@ fn claim(name: &[u8], rules: &[u16], literals: &[u16], clauses: &[u16], level: u
     let none = [0i32; 0];
     let no_literals = [0u16; 0];
     let no_minutes = [0i16; 0];
+    let marks = [0u8];
     let values = [1u8];
     let levels = [level];
     let verdict = check(
@@ -24,6 +25,7 @@ fn claim(name: &[u8], rules: &[u16], literals: &[u16], clauses: &[u16], level: u
         &none,
         &no_literals,
         &no_minutes,
+        &marks,
         &values,
         &levels,
     );
@@ -82,6 +84,7 @@ fn load_row(name: &[u8], low: i32, high: i32, start: i32, size: i32, minutes: i1
     let loads = [low, high, start, size];
     let load_literals = [0u16];
     let worked = [minutes];
+    let marks = [0u8];
     let values = [1u8];
     let levels = [0u16];
     let verdict = check(
@@ -92,6 +95,7 @@ fn load_row(name: &[u8], low: i32, high: i32, start: i32, size: i32, minutes: i1
         &loads,
         &load_literals,
         &worked,
+        &marks,
         &values,
         &levels,
     );
@@ -104,6 +108,7 @@ fn values_and_levels(name: &[u8], first: u8, second: u8, first_level: u16, secon
     let no_loads = [0i32; 0];
     let no_minutes = [0i16; 0];
     let rules = [1u16, 0, 0];
+    let marks = [0u8; 2];
     let values = [first, second];
     let levels = [first_level, second_level];
     let verdict = check(
@@ -114,6 +119,7 @@ fn values_and_levels(name: &[u8], first: u8, second: u8, first_level: u16, secon
         &no_loads,
         &none,
         &no_minutes,
+        &marks,
         &values,
         &levels,
     );
@@ -129,6 +135,7 @@ fn overlapping(name: &[u8], first: u8, second: u8) {
     let no_loads = [0i32; 0];
     let none = [0u16; 0];
     let no_minutes = [0i16; 0];
+    let marks = [0u8; 2];
     let values = [first, second];
     let levels = [0u16, 1];
     let verdict = check(
@@ -139,6 +146,7 @@ fn overlapping(name: &[u8], first: u8, second: u8) {
         &no_loads,
         &none,
         &no_minutes,
+        &marks,
         &values,
         &levels,
     );
@@ -151,6 +159,7 @@ fn minutes_missing(name: &[u8]) {
     let no_loads = [0i32; 0];
     let load_literals = [0u16];
     let no_minutes = [0i16; 0];
+    let marks = [0u8];
     let values = [1u8];
     let levels = [0u16];
     let verdict = check(
@@ -161,33 +170,38 @@ fn minutes_missing(name: &[u8]) {
         &no_loads,
         &load_literals,
         &no_minutes,
+        &marks,
         &values,
         &levels,
     );
     show(name, verdict);
 }
 
-// So many open atoms, with that many values and levels.
+// So many open atoms, with marks for them and that many values and levels.
 fn open_atoms(name: &[u8], atoms: usize, valued: usize, levelled: usize) {
     let none = [0u16; 0];
     let no_loads = [0i32; 0];
     let no_minutes = [0i16; 0];
+    let marks = [0u8; 1025];
     let values = [0u8; 1025];
     let levels = [0u16; 1025];
-    if valued <= 1025 {
-        if levelled <= 1025 {
-            let verdict = check(
-                atoms,
-                &none,
-                &none,
-                &none,
-                &no_loads,
-                &none,
-                &no_minutes,
-                &values[0..valued],
-                &levels[0..levelled],
-            );
-            show(name, verdict);
+    if atoms <= 1025 {
+        if valued <= 1025 {
+            if levelled <= 1025 {
+                let verdict = check(
+                    atoms,
+                    &none,
+                    &none,
+                    &none,
+                    &no_loads,
+                    &none,
+                    &no_minutes,
+                    &marks[0..atoms],
+                    &values[0..valued],
+                    &levels[0..levelled],
+                );
+                show(name, verdict);
+            }
         }
     }
 }

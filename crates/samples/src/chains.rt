@@ -49,6 +49,7 @@ fn chain(name: &[u8], rules: &[u16], literals: &[u16], first: u8) {
     let none = [0u16; 0];
     let no_loads = [0i32; 0];
     let no_minutes = [0i16; 0];
+    let marks = [0u8; 1024];
     let mut open_values = [0u8; 1024];
     open_values[0] = first;
     let mut values = [0u8; 1024];
@@ -62,6 +63,7 @@ fn chain(name: &[u8], rules: &[u16], literals: &[u16], first: u8) {
         &no_loads,
         &none,
         &no_minutes,
+        &marks,
         &open_values,
         &mut values,
         &mut levels,

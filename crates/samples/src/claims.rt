@@ -17,6 +17,7 @@ fn book_a(high: i32, values: &[u8], levels: &[u16]) -> Verdict {
     let loads = [0i32, high, 0, 1];
     let load_literals = [6u16];
     let minutes = [60i16];
+    let marks = [0u8; 4];
     check(
         4,
         &rules,
@@ -25,16 +26,18 @@ fn book_a(high: i32, values: &[u8], levels: &[u16]) -> Verdict {
         &loads,
         &load_literals,
         &minutes,
+        &marks,
         values,
         levels,
     )
 }
 
-// A book of rules alone.
+// A book of rules and marks alone.
 fn rules_alone(
     atoms: usize,
     rules: &[u16],
     literals: &[u16],
+    marks: &[u8],
     values: &[u8],
     levels: &[u16],
 ) -> Verdict {
@@ -49,6 +52,7 @@ fn rules_alone(
         &no_loads,
         &none,
         &no_minutes,
+        marks,
         values,
         levels,
     )
@@ -58,21 +62,21 @@ fn rules_alone(
 fn self_support(values: &[u8], levels: &[u16]) -> Verdict {
     let rules = [0u16, 0, 1];
     let literals = [0u16];
-    rules_alone(1, &rules, &literals, values, levels)
+    rules_alone(1, &rules, &literals, &[0u8], values, levels)
 }
 
 // One atom with the fact `(rule 0)`.
 fn fact(values: &[u8], levels: &[u16]) -> Verdict {
     let rules = [0u16, 0, 0];
     let literals = [0u16; 0];
-    rules_alone(1, &rules, &literals, values, levels)
+    rules_alone(1, &rules, &literals, &[0u8], values, levels)
 }
 
 // `(rule 0 (not 1))` and `(rule 1 (not 0))`.
 fn either_or(values: &[u8], levels: &[u16]) -> Verdict {
     let rules = [0u16, 0, 1, 1, 1, 1];
     let literals = [3u16, 1];
-    rules_alone(2, &rules, &literals, values, levels)
+    rules_alone(2, &rules, &literals, &[0u8, 0], values, levels)
 }
 
 // Claims on book A.

@@ -6,6 +6,7 @@ mod bad_input;
 mod chains;
 mod claims;
 mod evaluated;
+mod marks;
 mod paper;
 
 fn main() {
@@ -14,4 +15,5 @@ fn main() {
     run_evaluations();
     bad_input::run_bad_input();
     chains::run_chains();
+    marks::run_marks();
 }

@@ -2,12 +2,13 @@
 -- Assumes nothing.
 use Rattle.wellfounded.proofs.Computes.{computes as wellfounded-computes}
 use Rattle.tables.specs.Faults.{orAt, lowest, refusedOr, firstFault}
-use Rattle.tables.specs.Rows.{ruleCount, ruleHead, ruleStart, ruleSize, ruleBody, ruleAt, rulesOf, headsRule, definitionOf}
+use Rattle.tables.specs.Rows.{ruleCount, ruleHead, ruleStart, ruleSize, ruleBody, ruleAt, rulesOf, headsRule, isDeclared, definedBy}
+use Rattle.tables.specs.Rows.{definitionOf}
 use Rattle.tables.specs.Rows.{clauseCount, clauseStart, clauseSize, clauseAt, clausesOf}
 use Rattle.tables.specs.Loads.{loadCount, indexOf, loadEntry, loadLow, loadHigh, loadStart, loadSize, termAt, termsAt, loadAt}
 use Rattle.tables.specs.Loads.{loadsOf}
 use Rattle.tables.specs.Sound.{lent, bookOf, sizesFit, badRuleRow, badClauseRow, goodLoadRow, badLiteral, badTerm, tableTests}
-use Rattle.tables.specs.Sound.{isSized, sliceTest}
+use Rattle.tables.specs.Sound.{isSized, sliceTest, markCountTest, markTest, lentTests}
 use Rattle.tables.specs.Values.{notHeld}
 
 unfoldable opens-faults : Unit {0}
@@ -15,7 +16,7 @@ unfolding orAt lowest refusedOr firstFault
 opens-faults = tt
 
 unfoldable opens-rules : Unit {0}
-unfolding ruleCount ruleHead ruleStart ruleSize ruleBody ruleAt rulesOf headsRule definitionOf
+unfolding ruleCount ruleHead ruleStart ruleSize ruleBody ruleAt rulesOf headsRule isDeclared definedBy definitionOf
 opens-rules = tt
 
 unfoldable opens-clauses : Unit {0}
@@ -30,10 +31,14 @@ unfoldable opens-sound : Unit {0}
 unfolding lent bookOf sizesFit badRuleRow badClauseRow goodLoadRow badLiteral badTerm tableTests isSized sliceTest
 opens-sound = tt
 
+unfoldable opens-marks : Unit {0}
+unfolding markCountTest markTest lentTests
+opens-marks = tt
+
 unfoldable opens-values : Unit {0}
 unfolding notHeld
 opens-values = tt
 
 unfoldable pub computes : Unit {0}
-unfolding wellfounded-computes opens-faults opens-rules opens-clauses opens-loads opens-sound opens-values
+unfolding wellfounded-computes opens-faults opens-rules opens-clauses opens-loads opens-sound opens-marks opens-values
 computes = tt

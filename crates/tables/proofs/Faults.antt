@@ -240,6 +240,12 @@ first-append (x ∷ xs) ys e =
     first-passes x (xs ++ ys) (absent-nothing x (good .0)) ∙ first-append xs ys (sym (good .1) ∙ e))
     (λ failing. absurd (refused-accepted (sym (failing .2) ∙ e))) (first-cases x xs)
 
+-- A test whose fault occurs nowhere may as well not be in the list.
+pub absent-dropped : (xs ys : List Test) (t : Test) → Absent t → firstFault (xs ++ (t ∷ ys)) ≡ firstFault (xs ++ ys)
+unfolding firstFault
+absent-dropped [] ys t a = first-passes t ys (absent-nothing t a)
+absent-dropped (x ∷ xs) ys t a = ap (refusedOr (x .fault) (lowest (x .positions) (x .bad))) (absent-dropped xs ys t a)
+
 pub first-append-refused : (xs ys : List Test) (f : Fault) (p : ℕ) → firstFault xs ≡ Refused f p → firstFault (xs ++ ys) ≡ Refused f p
 unfolding firstFault
 first-append-refused [] ys f p e = absurd (refused-accepted (sym e))

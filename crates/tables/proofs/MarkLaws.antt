@@ -1,6 +1,6 @@
 -- Laws of marks: what a mark reads, and a loop over rule rows that puts 1 at the atoms which pass a test of the row.
 -- Assumes nothing.
-use Prim.Native.Nat.{ℕ, zero, suc, _+_, _<_}
+use Prim.Native.Nat.{ℕ, zero, suc, _+_, _≤_, _<_}
 use mathlib.Core.Path.{_≡_, refl, sym, ap, subst, _∙_, fun-ext}
 use mathlib.Core.Logic.{⊎-elim}
 use mathlib.Core.Bool.{Bool, true, false, not, cond, _&&_, _||_, or-false}
@@ -16,7 +16,8 @@ use Rattle.wellfounded.specs.Literals.{isTrue, valueAt}
 use Rattle.wellfounded.proofs.Lists.{length-tabulate, getD-tabulate, getD-default}
 use Rattle.wellfounded.proofs.Literals.{true-test, held-at}
 use Rattle.wellfounded.proofs.Tests.{decided, both, or-right, or-none, and-left, and-right}
-use Rattle.tables.specs.internal.Marks.{isMarked, markWhere}
+use Rattle.tables.specs.Rows.{headsRule, isDeclared, definedBy}
+use Rattle.tables.specs.internal.Marks.{isMarked, markWhere, Copied, TellsDefined}
 use Rattle.tables.specs.Values.{notHeld}
 
 pub mark-length : (passes : ℕ → Bool) (marks : List ℕ) → length (markWhere passes marks) ≡ length marks
@@ -129,6 +130,17 @@ module _ (heads : ℕ → ℕ) (passes : ℕ → Bool) (before : List ℕ) (n : 
   row-again head e marked m =
       ⊎-elim (λ (t : passes n ≡ true). rw (set-again marks head marked) at (row-puts head e t m)) (λ (f : passes n ≡ false). row-passes f m)
       (decided (passes n))
+
+-- With the heads marked beside marks that were copied, marks tell what rules and marks define.
+pub defined-marks :
+    {rules marks before copied now : List ℕ} → Copied marks before copied → now ≡ markWhere (headsRule rules) copied →
+    length marks ≤ length before → TellsDefined rules marks (length before) now
+unfolding definedBy isDeclared isMarked
+defined-marks {rules} {marks} {before} {copied} c is room =
+    record {
+      long = rw (is, mark-length) (c .long);
+      tells = λ atom l. rw is (marked-where (headsRule rules) copied atom (omega (arith, c .long)) ∙ ap (λ (mark : ℕ). headsRule rules atom || eqb mark 1) (c .same atom l));
+    }
 
 -- The code's test of a value.
 pub true-at : (values : List ℕ) (atom : ℕ) → atom < length values → isTrue (valueAt values atom) ≡ eqb (getD values atom 0) 1

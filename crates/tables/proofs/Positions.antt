@@ -12,7 +12,7 @@ use Rattle.tables.specs.Limits.{maxPosition}
 use Rattle.tables.specs.Faults.{positionOf, lowest, Test, refusedOr, firstFault, Absent}
 use Rattle.tables.specs.Rows.{ruleCount, clauseCount, definitionOf}
 use Rattle.tables.specs.Loads.{loadCount}
-use Rattle.tables.specs.Sound.{Tables, bookOf, tableTests, Slice, sliceTest, Sizes}
+use Rattle.tables.specs.Sound.{Tables, bookOf, tableTests, Slice, lentTests, sliceTest, markCountTest, markTest, Sizes}
 use Rattle.tables.proofs.Faults.{lowest-at, nothing-absent, accepted-absent}
 use Rattle.tables.proofs.SoundTables.{sizes-fault}
 
@@ -33,10 +33,10 @@ position-none = omega arith
 
 module _ (t : Tables) where
   -- Tables that are not refused for their sizes have small ones.
-  pub passed-sizes : (more : List Test) → firstFault (tableTests t ++ more) ≡ Accepted → Sizes t
-  unfolding tableTests
-  passed-sizes more e =
-      sizes-fault t .0 (not-false _ (accepted-absent (tableTests t ++ more) e _ (List·Memᴰ·head refl) .nowhere 0 (omega arith)))
+  pub passed-sizes : (others : List Slice) (more : List Test) → firstFault (lentTests t others ++ more) ≡ Accepted → Sizes t
+  unfolding lentTests tableTests
+  passed-sizes others more e =
+      sizes-fault t .0 (not-false _ (accepted-absent (lentTests t others ++ more) e _ (List·Memᴰ·head refl) .nowhere 0 (omega arith)))
 
   module _ (z : Sizes t) where
     pub few-rules : ruleCount (t .rules) ≤ suc maxPosition
@@ -58,19 +58,14 @@ module _ (t : Tables) where
     unfolding bookOf definitionOf
     few-in-book = few-atoms
 
-  -- The tests of the tables, before others whose position is small where the tables have the sizes that they may have.
-  pub tables-position :
-      (more : List Test) → (Sizes t → positionOf (firstFault more) ≤ maxPosition) →
-      positionOf (firstFault (tableTests t ++ more)) ≤ maxPosition
-  unfolding tableTests
-  tables-position more later =
+  -- The tests of what is lent, before others whose position is small where the tables have the sizes that they may have.
+  pub lent-position :
+      (others : List Slice) (more : List Test) → (Sizes t → positionOf (firstFault more) ≤ maxPosition) →
+      positionOf (firstFault (lentTests t others ++ more)) ≤ maxPosition
+  unfolding lentTests tableTests sliceTest markCountTest markTest
+  lent-position others more later =
       position-more _ _ (omega arith) (λ a.
       let z = sizes-fault t .0 (not-false _ (a .nowhere 0 (omega arith))) in
       position-more _ _ (few-rules z) (λ b. position-more _ _ (few-clauses z) (λ c. position-more _ _ (few-loads z) (λ e.
-      position-more _ _ (omega (arith, z .fewLiterals)) (λ f. position-more _ _ (omega (arith, z .fewTerms)) (λ g. later z))))))
-
-pub slice-position :
-    (slices : List Slice) (more : List Test) → positionOf (firstFault more) ≤ maxPosition →
-    positionOf (firstFault (sliceTest slices ∷ more)) ≤ maxPosition
-unfolding sliceTest
-slice-position slices more later = position-more _ _ (omega arith) (λ a. later)
+      position-more _ _ (omega (arith, z .fewLiterals)) (λ f. position-more _ _ (omega (arith, z .fewTerms)) (λ g.
+      position-more _ _ (omega arith) (λ h. position-more _ _ (omega arith) (λ i. position-more _ _ (few-atoms z) (λ j. later z)))))))))

@@ -14,13 +14,15 @@ use lib.Signed.{mag, ltZ, leZ, nonNeg}
 use mir.Syntax.{Width, w32, w64}
 use mir.Val.{Fits, hbits, toZ, ofZ}
 use mir.Facts.{toZ-ofZ}
-use borrow.Author.Tests.{not-false, leb-true, leb-false, eqb-true, le-leb, lt-leb}
+use borrow.Author.Tests.{not-false, leb-true, leb-false, eqb-true, le-leb, lt-leb, le-ltb}
 use Rattle.wellfounded.specs.Literals.{atomOf}
 use Rattle.tables.specs.Loads.{loadWidth, indexOf, loadEntry, loadLow, loadHigh}
 use Rattle.tables.specs.declared.Found.the-variants.{Nothing}
 use Rattle.tables.specs.Faults.{lowest}
 use Rattle.tables.specs.Sound.{sizesFit, badLiteral}
+use Rattle.tables.specs.Values.{notHeld}
 use Rattle.tables.proofs.Faults.{lowest-nothing}
+use Rattle.tables.proofs.MarkLaws.{not-held-at}
 
 -- ── Tests as the code makes them ──
 same-comparison : (a b c d : ℕ) → (a ≤ b → c ≤ d) → (b < a → d < c) → leb a b ≡ leb c d
@@ -35,26 +37,26 @@ pub literal-beyond : (atoms literal : ℕ) → leb atoms (atomOf literal) ≡ le
 unfolding atomOf
 literal-beyond atoms literal = same-comparison atoms (literal / 2) (2 * atoms) literal (λ h. omega arith) (λ h. omega arith)
 
--- The search for the highest literal has come to i: no literal before it is higher than `most`.
-pub record Highest (literals : List ℕ) (i most : ℕ) : Type 0 where
-  pub low : i ≤ length literals
-  pub above : (place : ℕ) → place < i → getD literals place 0 ≤ most
+-- The search for the highest entry has come to i: no entry before it is higher than `most`.
+pub record Highest (entries : List ℕ) (i most : ℕ) : Type 0 where
+  pub low : i ≤ length entries
+  pub above : (place : ℕ) → place < i → getD entries place 0 ≤ most
 
-module _ {literals : List ℕ} where
-  pub highest-start : Highest literals 0 0
+module _ {entries : List ℕ} where
+  pub highest-start : Highest entries 0 0
   highest-start = record { low = omega arith; above = λ place l. absurd (omega arith) }
 
   pub highest-turn :
-      {i most more : ℕ} → i < length literals → most ≤ more → getD literals i 0 ≤ more → Highest literals i most →
-      Highest literals (i + 1) more
+      {i most more : ℕ} → i < length entries → most ≤ more → getD entries i 0 ≤ more → Highest entries i most →
+      Highest entries (i + 1) more
   highest-turn {i} {most} {more} l no-lower here h = record { low = omega arith; above = λ place below. step place (omega arith) }
     where
-      step : (place : ℕ) → place ≤ i → getD literals place 0 ≤ more
+      step : (place : ℕ) → place ≤ i → getD entries place 0 ≤ more
       step place below =
           ⊎-elim (λ (e : place ≡ i). rw e here) (λ (earlier : place < i). omega (arith, h .above place earlier)) (eq-or-lt-of-le below)
 
   pub highest-end :
-      {i most : ℕ} → length literals ≤ i → Highest literals i most → (place : ℕ) → place < length literals → getD literals place 0 ≤ most
+      {i most : ℕ} → length entries ≤ i → Highest entries i most → (place : ℕ) → place < length entries → getD entries place 0 ≤ most
   highest-end l h place below = h .above place (omega arith)
 
 -- Where the highest literal is an atom's, each is.
@@ -64,6 +66,13 @@ pub none-beyond :
 unfolding badLiteral atomOf
 none-beyond atoms most literals above known =
     lowest-nothing _ (length literals) (λ place l. lt-leb (2 * atoms) (getD literals place 0) (omega (arith, above place l)))
+
+-- Where the highest entry is 1 or less, each is 0 or 1.
+pub none-unheld :
+    (most : ℕ) (entries : List ℕ) → ((atom : ℕ) → atom < length entries → getD entries atom 0 ≤ most) → most ≤ 1 →
+    lowest (length entries) (notHeld entries) ≡ Nothing
+none-unheld most entries above low =
+    lowest-nothing _ (length entries) (λ atom l. not-held-at entries atom l ∙ le-ltb 1 (getD entries atom 0) (omega (arith, above atom l)))
 
 -- A signed number that is read from memory is what lies there.
 pub read-back : (w : Width) (z : ℤ) → mag z < 2 ^ hbits w → toZ w (ofZ w z) ≡ z

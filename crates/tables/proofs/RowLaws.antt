@@ -1,43 +1,74 @@
--- The definition that rows make has what `HasRows` says. Only the first laws know how `definitionOf` makes it; everything else
+-- The definition that rows and marks make has what `HasRows` says. Only the first laws know how `definitionOf` makes it; everything else
 -- speaks of any definition that has the rows.
 -- Assumes nothing.
 use Prim.Native.Nat.{ℕ, _≤_, _<_}
 use mathlib.Core.Path.{_≡_, refl, sym, ap, _∙_}
-use mathlib.Core.Bool.{Bool, true, _&&_}
+use mathlib.Core.Logic.{_↔_, _⊎_, inl, inr, ⊎-elim}
+use mathlib.Core.Bool.{Bool, true, false, _&&_}
 use mathlib.Core.List.{List, List·Memᴰ}
 use native.Mathlib.Omega.{arith}
-use lib.Dec.{eqb}
-use lib.ListN.{replicate}
+use lib.Dec.{eqb, ltb}
+use lib.ListN.{length, getD}
 use borrow.Author.Tests.{eqb-true, eq-eqb, lt-ltb}
 use Rattle.wellfounded.specs.Lists.{anyBelow}
 use Rattle.wellfounded.specs.Definitions.{Rule, Definition, isDefined, someRule}
-use Rattle.wellfounded.proofs.Tests.{both, first, second, same-test}
+use Rattle.wellfounded.proofs.Tests.{both, first, second, either, or-left, or-right, or-none, same-test}
 use Rattle.wellfounded.proofs.Lists.{anyBelow-use, anyBelow-make, member-tabulate, tabulate-member}
 use Rattle.wellfounded.proofs.Definitions.{someRule-use, someRule-make}
 use Rattle.wellfounded.proofs.Scan.{body-member}
-use Rattle.tables.specs.Rows.{ruleCount, ruleHead, ruleStart, ruleSize, ruleBody, ruleAt, rulesOf, headsRule, definitionOf}
+use Rattle.tables.specs.Rows.{ruleCount, ruleHead, ruleStart, ruleSize, ruleBody, ruleAt, rulesOf, headsRule, isDeclared, definedBy, definitionOf}
 use Rattle.tables.specs.Sound.{Tables, bookOf}
 use Rattle.tables.specs.internal.Definitions.{HasRows}
-use Rattle.tables.specs.internal.Marks.{isMarked, markWhere}
-use Rattle.tables.proofs.MarkLaws.{fresh-marks}
+use Rattle.tables.specs.internal.Marks.{isMarked, TellsDefined}
 
-pub definition-rows : (atoms : ℕ) (rules literals : List ℕ) → HasRows (definitionOf atoms rules literals) rules literals
-unfolding definitionOf rulesOf headsRule isDefined
-definition-rows atoms rules literals =
+pub definition-rows : (atoms : ℕ) (rules literals marks : List ℕ) → HasRows (definitionOf atoms rules literals marks) rules literals
+unfolding definitionOf definedBy rulesOf headsRule isDefined
+definition-rows atoms rules literals marks =
     record {
       ruleRow = λ m. tabulate-member (ruleCount rules) (ruleAt rules literals) m;
       rowRule = λ row l. member-tabulate (ruleCount rules) (ruleAt rules literals) row l;
       headDefined = λ row l below.
           both _ _ (lt-ltb _ _ below)
-          (anyBelow-make (ruleCount rules) (λ k. eqb (ruleHead rules k) (ruleHead rules row)) row l (eq-eqb (ruleHead rules row) _ refl));
+          (or-left _ _
+          (anyBelow-make (ruleCount rules) (λ k. eqb (ruleHead rules k) (ruleHead rules row)) row l (eq-eqb (ruleHead rules row) _ refl)));
     }
 
--- The marks of the heads tell who is defined.
-pub heads-tell :
-    (atoms n : ℕ) (rules literals marks : List ℕ) → atoms ≤ n → marks ≡ markWhere (headsRule rules) (replicate n 0) →
-    (atom : ℕ) → atom < atoms → isMarked marks atom ≡ isDefined (definitionOf atoms rules literals) atom
+-- Who is defined in a book: an atom that heads some rule, or whose mark is 1.
+pub defined-exactly :
+    (t : Tables) (atom : ℕ) → atom < t .atoms →
+    (isDefined (bookOf t) atom ≡ true)
+    ↔ (((row : ℕ) × (row < ruleCount (t .rules)) × (ruleHead (t .rules) row ≡ atom)) ⊎ (getD (t .marks) atom 0 ≡ 1))
+unfolding bookOf definitionOf isDefined definedBy headsRule isDeclared
+defined-exactly t atom below = (
+  λ h. ⊎-elim (λ heads. inl (head-row (anyBelow-use _ _ heads))) (λ marked. inr (eqb-true _ _ marked)) (either _ _ (second (ltb atom (t .atoms)) _ h)),
+  λ k. both _ _ (lt-ltb atom (t .atoms) below) (by k),
+)
+  where
+    head-row :
+        (row : ℕ) × (row < ruleCount (t .rules)) × (eqb (ruleHead (t .rules) row) atom ≡ true) →
+        (row : ℕ) × (row < ruleCount (t .rules)) × (ruleHead (t .rules) row ≡ atom)
+    head-row found = (found .0, found .1, eqb-true _ _ (found .2))
+
+    by :
+        ((row : ℕ) × (row < ruleCount (t .rules)) × (ruleHead (t .rules) row ≡ atom)) ⊎ (getD (t .marks) atom 0 ≡ 1) →
+        definedBy (t .rules) (t .marks) atom ≡ true
+    by =
+        ⊎-elim
+        (λ (found : (row : ℕ) × (row < ruleCount (t .rules)) × (ruleHead (t .rules) row ≡ atom)).
+        or-left _ _ (anyBelow-make (ruleCount (t .rules)) (λ row. eqb (ruleHead (t .rules) row) atom) (found .0) (found .1) (eq-eqb _ _ (found .2))))
+        (λ (marked : getD (t .marks) atom 0 ≡ 1). or-right (headsRule (t .rules) atom) _ (eq-eqb _ _ marked))
+
+-- Where no mark is 1, the defined atoms are the heads.
+pub undeclared-heads : (rules marks : List ℕ) (atom : ℕ) → isDeclared marks atom ≡ false → definedBy rules marks atom ≡ headsRule rules atom
+unfolding definedBy
+undeclared-heads rules marks atom none = or-none _ _ none
+
+-- Marks that tell what rules and marks define tell who is defined.
+pub defined-tell :
+    (atoms : ℕ) (rules literals marks : List ℕ) {size : ℕ} {now : List ℕ} → length marks ≡ atoms → TellsDefined rules marks size now →
+    (atom : ℕ) → atom < atoms → isMarked now atom ≡ isDefined (definitionOf atoms rules literals marks) atom
 unfolding definitionOf isDefined
-heads-tell atoms n rules literals marks room is atom l = rw (is, lt-ltb atom atoms l) (fresh-marks n (headsRule rules) atom (omega arith))
+defined-tell atoms rules literals marks many now atom l = rw (lt-ltb atom atoms l) (now .tells atom (omega arith))
 
 -- A book's definition has the book's atoms and its rows.
 pub book-size : (t : Tables) → bookOf t .size ≡ t .atoms
@@ -46,7 +77,7 @@ book-size t = refl
 
 pub book-rows : (t : Tables) → HasRows (bookOf t) (t .rules) (t .literals)
 unfolding bookOf
-book-rows t = definition-rows (t .atoms) (t .rules) (t .literals)
+book-rows t = definition-rows (t .atoms) (t .rules) (t .literals) (t .marks)
 
 module _ {d : Definition} {rules literals : List ℕ} (rows : HasRows d rules literals) where
   -- A scan of all rows for an atom finds what the definition's rules for it have. `q` is the scan's test of a row, and agrees

@@ -1,29 +1,32 @@
 -- What each fault of the tables says, and what the scans may rely on where none occurs.
 -- Assumes nothing.
 use Prim.Native.Nat.{ℕ, _+_, _*_, _%_, _≤_, _<_, zero-le}
-use mathlib.Core.Path.{_≡_, refl, sym, ap, subst}
+use mathlib.Core.Path.{_≡_, refl, sym, ap, subst, _∙_}
 use mathlib.Core.Logic.{_↔_, _⊎_, inl, inr, ⊎-elim}
 use mathlib.Core.Bool.{Bool, true, false, not, _&&_, false≢true}
-use mathlib.Core.List.{List, [], _∷_, List·Memᴰ, List·Memᴰ·head, List·Memᴰ·tail, List·Memᴰ·not-nil, List·Memᴰ·cases-cons}
+use mathlib.Core.List.{List, [], _∷_, _++_, List·Memᴰ, List·Memᴰ·head, List·Memᴰ·tail, List·Memᴰ·not-nil, List·Memᴰ·cases-cons}
+use mathlib.Core.List.{Memᴰ·append-left, Memᴰ·append-right}
 use native.Mathlib.Omega.{arith}
 use lib.Dec.{leb, ltb, eqb, le→leb}
 use lib.IntN.{ℤ, pos, negsuc, natAbs}
 use lib.Signed.{nonNeg, _≤ℤ_, leZ-yes}
 use lib.ListN.{length, getD}
-use borrow.Author.Tests.{leb-true, leb-false, le-leb, ltb-true, ltb-false, lt-ltb, eqb-true, eq-eqb, not-false}
+use borrow.Author.Tests.{leb-true, leb-false, le-leb, ltb-true, ltb-false, lt-ltb, le-ltb, eqb-true, eq-eqb, not-false}
 use Rattle.wellfounded.specs.Literals.{atomOf}
 use Rattle.wellfounded.proofs.Tests.{not-both, both, first, second, either, or-left, or-right, neither}
 use Rattle.wellfounded.proofs.Lists.{all-use, all-make}
 use Rattle.tables.specs.Limits.{maxAtoms, maxRuleRows, maxClauseRows, maxLiterals, maxLoadRows, maxTerms, maxMinutes}
-use Rattle.tables.specs.declared.Fault.the-variants.{SliceLength}
+use Rattle.tables.specs.declared.Fault.the-variants.{SliceLength, Mark}
 use Rattle.tables.specs.declared.Verdict.the-variants.{Refused}
 use Rattle.tables.specs.Faults.{Test, Absent, firstFault}
 use Rattle.tables.specs.Rows.{ruleWidth, clauseWidth, ruleCount, ruleHead, ruleStart, ruleSize, clauseStart, clauseSize}
 use Rattle.tables.specs.Loads.{loadWidth, loadEntry}
 use Rattle.tables.specs.Sound.{Tables, sizesFit, fitsSizes, badRuleRow, badClauseRow, goodLoadRow, badLiteral, badTerm, tableTests}
-use Rattle.tables.specs.Sound.{Slice, sized, isSized, sliceTest, Sizes, LoadRowFits}
+use Rattle.tables.specs.Values.{notHeld}
+use Rattle.tables.specs.Sound.{Slice, sized, isSized, sliceTest, markCountTest, markTest, lentTests, Sizes, LoadRowFits, MarksFit}
 use Rattle.tables.specs.internal.Scans.{RulesScannable, ClausesScannable, LoadsScannable}
-use Rattle.tables.proofs.Faults.{absent-nothing, first-passes, first-fails, once-fails}
+use Rattle.tables.proofs.Faults.{absent-nothing, absent-none, absent-more, first-passes, first-fails, once-passes, once-fails}
+use Rattle.tables.proofs.MarkLaws.{not-held-at}
 
 -- ── Each fault in words ──
 
@@ -216,3 +219,76 @@ pub sized-more :
 sized-more {entries} {due} {slices} here there s m =
     ⊎-elim (λ (e : s ≡ sized entries due). subst (λ (x : Slice). x .entries ≡ x .due) (sym e) here) (λ (t : List·Memᴰ s slices). there s t)
     (List·Memᴰ·cases-cons m)
+
+-- ── All that is lent ──
+
+-- A mark is bad if it is above 1.
+pub mark-fault : (marks : List ℕ) (atom : ℕ) → atom < length marks → (notHeld marks atom ≡ true) ↔ (1 < getD marks atom 0)
+mark-fault marks atom l = (λ h. ltb-true _ _ (sym (not-held-at marks atom l) ∙ h), λ h. not-held-at marks atom l ∙ lt-ltb _ _ h)
+
+-- 31 does not occur exactly if there is a mark for each atom, and each is 0 or 1.
+pub marks-fault : (t : Tables) → (Absent (markCountTest t) × Absent (markTest t)) ↔ MarksFit t
+unfolding markCountTest markTest
+marks-fault t = (fit, absent)
+  where
+    fit : Absent (markCountTest t) × Absent (markTest t) → MarksFit t
+    fit none =
+        let many = eqb-true _ _ (not-false _ (none .0 .nowhere 0 (omega arith))) in
+        record {
+          many = many;
+          small = λ atom l. ltb-false _ _ (sym (not-held-at (t .marks) atom (rw many l)) ∙ none .1 .nowhere atom l);
+        }
+
+    absent : MarksFit t → Absent (markCountTest t) × Absent (markTest t)
+    absent m = (
+      record { nowhere = λ k l. ap not (eq-eqb _ _ (m .many)) },
+      record { nowhere = λ atom l. not-held-at (t .marks) atom (rw (m .many) l) ∙ le-ltb _ _ (m .small atom l) },
+    )
+
+-- Marks that are not one for each atom are the fault at 0; else the verdict is left to the tests after it.
+pub marks-refuse :
+    (t : Tables) (later : List Test) → (length (t .marks) ≡ t .atoms → ⊥) → firstFault (markCountTest t ∷ later) ≡ Refused Mark 0
+unfolding markCountTest
+marks-refuse t later other = first-fails _ later 0 (once-fails _ (ap not (not-both _ (λ h. other (eqb-true _ _ h)))))
+
+pub marks-leave :
+    (t : Tables) (later : List Test) → length (t .marks) ≡ t .atoms → firstFault (markCountTest t ∷ later) ≡ firstFault later
+unfolding markCountTest
+marks-leave t later many = first-passes _ later (once-passes _ (ap not (eq-eqb _ _ many)))
+
+module _ (t : Tables) (others : List Slice) where
+  -- Its faults come before those of the call, in this order.
+  pub lent-order : (later : List Test) → lentTests t others ++ later ≡ tableTests t ++ (sliceTest others ∷ markCountTest t ∷ markTest t ∷ later)
+  unfolding lentTests tableTests
+  lent-order later = refl
+
+  module _ (none : (test : Test) → List·Memᴰ test (lentTests t others) → Absent test) where
+    pub lent-tables : (test : Test) → List·Memᴰ test (tableTests t) → Absent test
+    unfolding lentTests
+    lent-tables test m = none test (Memᴰ·append-left _ m)
+
+    pub lent-slices : Absent (sliceTest others)
+    unfolding lentTests
+    lent-slices = none _ (Memᴰ·append-right (tableTests t) (List·Memᴰ·head refl))
+
+    pub lent-marks : MarksFit t
+    unfolding lentTests
+    lent-marks =
+        marks-fault t .0 (
+          none _ (Memᴰ·append-right (tableTests t) (List·Memᴰ·tail (List·Memᴰ·head refl))),
+          none _ (Memᴰ·append-right (tableTests t) (List·Memᴰ·tail (List·Memᴰ·tail (List·Memᴰ·head refl)))),
+        )
+
+  -- Nothing that is lent has a fault.
+  pub lent-none :
+      ((test : Test) → List·Memᴰ test (tableTests t) → Absent test) → Absent (sliceTest others) → MarksFit t →
+      (test : Test) → List·Memᴰ test (lentTests t others) → Absent test
+  unfolding lentTests tableTests
+  lent-none tables slices marks =
+      absent-more (tables _ (List·Memᴰ·head refl))
+      (absent-more (tables _ (List·Memᴰ·tail (List·Memᴰ·head refl)))
+      (absent-more (tables _ (List·Memᴰ·tail (List·Memᴰ·tail (List·Memᴰ·head refl))))
+      (absent-more (tables _ (List·Memᴰ·tail (List·Memᴰ·tail (List·Memᴰ·tail (List·Memᴰ·head refl)))))
+      (absent-more (tables _ (List·Memᴰ·tail (List·Memᴰ·tail (List·Memᴰ·tail (List·Memᴰ·tail (List·Memᴰ·head refl))))))
+      (absent-more (tables _ (List·Memᴰ·tail (List·Memᴰ·tail (List·Memᴰ·tail (List·Memᴰ·tail (List·Memᴰ·tail (List·Memᴰ·head refl)))))))
+      (absent-more slices (absent-more (marks-fault t .1 marks .0) (absent-more (marks-fault t .1 marks .1) absent-none))))))))

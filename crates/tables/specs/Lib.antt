@@ -3,6 +3,6 @@ pub mod Limits
 pub mod Faults
 pub mod Rows
 pub mod Loads
-pub mod Sound
 pub mod Values
+pub mod Sound
 pub mod internal

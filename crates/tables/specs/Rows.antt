@@ -1,6 +1,6 @@
--- Rows of the rule and clause tables, and what they stand for. Row layouts are defined here and nowhere else.
+-- Rows of the rule and clause tables, marks, and what they stand for. Row layouts are defined here and nowhere else.
 use Prim.Native.Nat.{ℕ, _+_, _*_, _/_}
-use mathlib.Core.Bool.{Bool}
+use mathlib.Core.Bool.{Bool, _||_}
 use mathlib.Core.List.{List}
 use lib.Dec.{eqb}
 use lib.ListN.{length, getD}
@@ -33,13 +33,22 @@ ruleAt rules literals row = record { head = ruleHead rules row; body = ruleBody 
 unfoldable pub rulesOf : List ℕ → List ℕ → List Rule
 rulesOf rules literals = tabulate (ruleCount rules) (ruleAt rules literals)
 
--- An atom that heads some rule is defined, every other is open.
+-- Whether some rule has the atom as its head.
 unfoldable pub headsRule : List ℕ → ℕ → Bool
 headsRule rules atom = anyBelow (ruleCount rules) (λ row. eqb (ruleHead rules row) atom)
 
--- The definition that the rule rows make over so many atoms.
-unfoldable pub definitionOf : ℕ → List ℕ → List ℕ → Definition
-definitionOf atoms rules literals = record { size = atoms; defined = headsRule rules; rules = rulesOf rules literals }
+-- A book's marks have an entry for each atom, and 1 declares it defined.
+unfoldable pub isDeclared : List ℕ → ℕ → Bool
+isDeclared marks atom = eqb (getD marks atom 0) 1
+
+-- An atom that heads some rule or is declared is defined, every other is open.
+unfoldable pub definedBy : List ℕ → List ℕ → ℕ → Bool
+definedBy rules marks atom = headsRule rules atom || isDeclared marks atom
+
+-- The definition that rule rows and marks make over so many atoms.
+unfoldable pub definitionOf : ℕ → List ℕ → List ℕ → List ℕ → Definition
+definitionOf atoms rules literals marks =
+    record { size = atoms; defined = definedBy rules marks; rules = rulesOf rules literals }
 
 -- A clause row is two numbers: start, count, over the same literal table.
 abbrev pub clauseWidth : ℕ

@@ -1,22 +1,23 @@
--- The lent tables, their faults 11 to 16 in order, and the fault 17 of the slices lent with them.
-use Prim.Native.Nat.{ℕ, _+_, _*_, _%_, _≤_}
+-- The lent tables, their faults 11 to 16 in order, the fault 17 of the slices lent with them, and the fault 31 of the marks.
+use Prim.Native.Nat.{ℕ, _+_, _*_, _%_, _≤_, _<_}
 use mathlib.Core.Path.{_≡_}
 use mathlib.Core.Bool.{Bool, not, _&&_, _||_}
-use mathlib.Core.List.{List, [], _∷_, List·Memᴰ}
+use mathlib.Core.List.{List, [], _∷_, _++_, List·Memᴰ}
 use lib.Dec.{leb, ltb, eqb}
 use lib.IntN.{ℤ, pos, natAbs}
 use lib.Signed.{nonNeg, _≤ℤ_}
 use lib.ListN.{length, getD}
 use Rattle.wellfounded.specs.Lists.{all}
 use Rattle.wellfounded.specs.Definitions.{Definition}
-use Rattle.tables.specs.declared.Fault.the-variants.{TableSizes, RuleRow, ClauseRow, LoadRow, Literal, LoadTerm, SliceLength}
+use Rattle.tables.specs.declared.Fault.the-variants.{TableSizes, RuleRow, ClauseRow, LoadRow, Literal, LoadTerm, SliceLength, Mark}
 use Rattle.tables.specs.Limits.{maxAtoms, maxRuleRows, maxClauseRows, maxLiterals, maxLoadRows, maxTerms, maxMinutes, maxBound}
 use Rattle.tables.specs.Faults.{Test, Absent}
 use Rattle.tables.specs.Rows.{ruleWidth, ruleCount, ruleHead, ruleStart, ruleSize, definitionOf}
 use Rattle.tables.specs.Rows.{clauseWidth, clauseCount, clauseStart, clauseSize}
 use Rattle.tables.specs.Loads.{loadWidth, loadCount, loadEntry, loadLow, loadHigh, loadStart, loadSize}
+use Rattle.tables.specs.Values.{notHeld}
 
--- All that is lent for a book: N and six tables.
+-- All that is lent for a book: N and seven tables.
 pub record Tables : Type 0 where
   pub atoms : ℕ
   pub rules : List ℕ
@@ -25,9 +26,10 @@ pub record Tables : Type 0 where
   pub loads : List ℤ
   pub loadLiterals : List ℕ
   pub minutes : List ℤ
+  pub marks : List ℕ
 
-unfoldable pub lent : ℕ → List ℕ → List ℕ → List ℕ → List ℤ → List ℕ → List ℤ → Tables
-lent atoms rules literals clauses loads loadLiterals minutes =
+unfoldable pub lent : ℕ → List ℕ → List ℕ → List ℕ → List ℤ → List ℕ → List ℤ → List ℕ → Tables
+lent atoms rules literals clauses loads loadLiterals minutes marks =
     record {
       atoms = atoms;
       rules = rules;
@@ -36,11 +38,12 @@ lent atoms rules literals clauses loads loadLiterals minutes =
       loads = loads;
       loadLiterals = loadLiterals;
       minutes = minutes;
+      marks = marks;
     }
 
--- The definition that a book's rules make.
+-- The definition that a book's rules and marks make.
 unfoldable pub bookOf : Tables → Definition
-bookOf t = definitionOf (t .atoms) (t .rules) (t .literals)
+bookOf t = definitionOf (t .atoms) (t .rules) (t .literals) (t .marks)
 
 -- 11 is absent: N and every table are within their limits, tables of rows have whole rows, and there are as many minutes as load literals.
 -- The arguments are N and the tables' lengths.
@@ -77,7 +80,7 @@ badLiteral atoms literals place = leb (2 * atoms) (getD literals place 0)
 unfoldable pub badTerm : ℕ → List ℕ → List ℤ → ℕ → Bool
 badTerm atoms loadLiterals minutes place = badLiteral atoms loadLiterals place || ltb maxMinutes (natAbs (getD minutes place (pos 0)))
 
--- The faults of the tables, in the order in which they are looked for.
+-- The faults 11 to 16 of the tables, in the order in which they are looked for.
 unfoldable pub tableTests : Tables → List Test
 tableTests t =
     record { fault = TableSizes; positions = 1; bad = λ k. not (fitsSizes t) }
@@ -103,10 +106,21 @@ isSized s = eqb (s .entries) (s .due)
 unfoldable pub sliceTest : List Slice → Test
 sliceTest slices = record { fault = SliceLength; positions = 1; bad = λ k. not (all isSized slices) }
 
--- Tables are sound if neither they nor the slices lent with them have a fault of 11 to 17.
+-- 31: marks that are not one for each atom; or else a mark that is neither 0 nor 1.
+unfoldable pub markCountTest : Tables → Test
+markCountTest t = record { fault = Mark; positions = 1; bad = λ k. not (eqb (length (t .marks)) (t .atoms)) }
+
+unfoldable pub markTest : Tables → Test
+markTest t = record { fault = Mark; positions = t .atoms; bad = notHeld (t .marks) }
+
+-- The faults of all that a call is lent, in the order in which they are looked for: of the tables, of the slices lent with them, and
+-- of the marks.
+unfoldable pub lentTests : Tables → List Slice → List Test
+lentTests t others = tableTests t ++ (sliceTest others ∷ markCountTest t ∷ markTest t ∷ [])
+
+-- Tables are sound if neither they nor the slices lent with them have a fault of 11 to 17 or of 31.
 pub record Sound (t : Tables) (others : List Slice) : Type 0 where
-  pub tables : (test : Test) → List·Memᴰ test (tableTests t) → Absent test
-  pub slices : Absent (sliceTest others)
+  pub none : (test : Test) → List·Memᴰ test (lentTests t others) → Absent test
 
 -- What the sizes of sound tables are.
 pub record Sizes (t : Tables) : Type 0 where
@@ -128,3 +142,8 @@ pub record LoadRowFits (loads : List ℤ) (terms row : ℕ) : Type 0 where
   pub within : loadStart loads row + loadSize loads row ≤ terms
   pub low : natAbs (loadLow loads row) ≤ maxBound
   pub high : natAbs (loadHigh loads row) ≤ maxBound
+
+-- What the marks of sound tables are: one for each atom, and each of them 0 or 1.
+pub record MarksFit (t : Tables) : Type 0 where
+  pub many : length (t .marks) ≡ t .atoms
+  pub small : (atom : ℕ) → atom < t .atoms → getD (t .marks) atom 0 ≤ 1

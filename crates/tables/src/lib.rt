@@ -35,6 +35,7 @@ pub enum Fault {
     Undecided,
     FailingClause,
     FailingLoad,
+    Mark,
 }
 
 // What every call answers: accepted, or refused for a fault at a position.
@@ -66,6 +67,7 @@ pub fn fault_number(fault: Fault) -> usize
         Fault::Undecided => 25,
         Fault::FailingClause => 26,
         Fault::FailingLoad => 27,
+        Fault::Mark => 31,
     }
 }
 

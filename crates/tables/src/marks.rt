@@ -1,15 +1,27 @@
-// Marks on atoms.
+// Marks on atoms, and the marks that a book declares atoms defined by.
 ghost use mathlib.Core.Path.{_≡_};
 ghost use Prim.Native.Nat.{ℕ, _≤_, _<_};
 ghost use lib.ListN.{length};
 ghost use Rattle.wellfounded.specs.Lists.{count};
 ghost use Rattle.tables.specs.Rows.{ruleCount, ruleHead, headsRule};
-ghost use Rattle.tables.specs.internal.Marks.{isMarked, markWhere};
+ghost use Rattle.tables.specs.internal.Marks.{isMarked, markWhere, Copied, TellsDefined};
 use super::rows::rule_count;
 use super::rows::rule_head;
 
-// Marks the head of every rule: an atom that heads some rule is defined.
-pub fn mark_heads(rules: &[u16], marks: &mut [u8])
+// Copies a book's marks to the front of others.
+fn copy_marks(marks: &[u8], defined: &mut [u8])
+    requires { ⌜ length (now marks) ≤ length (now defined) ⌝ }
+    ensures { λ r. ⌜ Copied (now (marks .entry)) (now (defined .entry)) (now (defined .exit)) ⌝ }
+{
+    let mut next = 0;
+    while next < marks.len() {
+        defined[next] = marks[next];
+        next += 1;
+    }
+}
+
+// Marks the head of every rule.
+fn mark_heads(rules: &[u16], marks: &mut [u8])
     requires { ⌜ ((row : ℕ) → row < ruleCount (now rules) → ruleHead (now rules) row < length (now marks)) ⌝ }
     ensures { λ r. ⌜ now (marks .exit) ≡ markWhere (headsRule (now (rules .entry))) (now (marks .entry)) ⌝ }
 {
@@ -20,6 +32,16 @@ pub fn mark_heads(rules: &[u16], marks: &mut [u8])
         marks[head] = 1;
         row += 1;
     }
+}
+
+// Marks the defined atoms of a book: those that its marks declare, and the head of every rule.
+pub fn mark_defined(rules: &[u16], marks: &[u8], defined: &mut [u8])
+    requires { ⌜ ((row : ℕ) → row < ruleCount (now rules) → ruleHead (now rules) row < length (now defined)) ⌝ }
+    requires { ⌜ length (now marks) ≤ length (now defined) ⌝ }
+    ensures { λ r. ⌜ TellsDefined (now (rules .entry)) (now (marks .entry)) (length (now (defined .entry))) (now (defined .exit)) ⌝ }
+{
+    copy_marks(marks, defined);
+    mark_heads(rules, defined);
 }
 
 // How many of the first `size` atoms are marked.

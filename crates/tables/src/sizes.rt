@@ -1,5 +1,7 @@
-// Sizes of the lent tables, and all faults of tables in their order.
+// Sizes of the lent tables, and the faults 11 to 16 of tables in their order.
 ghost use mathlib.Core.Path.{_≡_};
+ghost use mathlib.Core.List.{List};
+ghost use Prim.Native.Nat.{ℕ};
 ghost use Rattle.tables.specs.Faults.{firstFault};
 ghost use Rattle.tables.specs.Sound.{lent, sizesFit, tableTests};
 use super::Fault;
@@ -62,7 +64,7 @@ fn sizes_fit(
         & (minutes == load_literals)
 }
 
-// The first fault of the tables: their sizes, then rows, then single entries.
+// The first fault of the tables, whatever the marks: their sizes, then rows, then single entries.
 pub fn table_fault(
     atoms: usize,
     rules: &[u16],
@@ -72,8 +74,8 @@ pub fn table_fault(
     load_literals: &[u16],
     minutes: &[i16],
 ) -> Verdict
-    ensures { λ r. ⌜ r ≡ firstFault (tableTests (lent atoms (now (rules .entry)) (now (literals .entry)) (now (clauses .entry))
-        (now (loads .entry)) (now («load_literals» .entry)) (now (minutes .entry)))) ⌝ }
+    ensures { λ r. ⌜ ((marks : List ℕ) → r ≡ firstFault (tableTests (lent atoms (now (rules .entry)) (now (literals .entry)) (now (clauses .entry))
+        (now (loads .entry)) (now («load_literals» .entry)) (now (minutes .entry)) marks))) ⌝ }
 {
     if !sizes_fit(
         atoms,

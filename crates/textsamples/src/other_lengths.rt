@@ -11,6 +11,7 @@ fn show_five(name: &[u8], text: &[u8]) {
     let mut no_loads = [9i32; 0];
     let mut no_literals = [9u16; 0];
     let mut no_minutes = [9i16; 0];
+    let mut marks = [9u8; 1];
     let mut values = [9u8; 1];
     let mut levels = [9u16; 1];
     let book = read(
@@ -21,6 +22,7 @@ fn show_five(name: &[u8], text: &[u8]) {
         &mut no_loads,
         &mut no_literals,
         &mut no_minutes,
+        &mut marks,
         &mut values,
         &mut levels,
     );
@@ -32,6 +34,7 @@ fn show_five(name: &[u8], text: &[u8]) {
         &no_loads,
         &no_literals,
         &no_minutes,
+        &marks,
         &values,
         &levels,
     );
@@ -45,6 +48,7 @@ fn show_long(name: &[u8], text: &[u8]) {
     let mut loads = [9i32; 260];
     let mut load_literals = [9u16; 4097];
     let mut minutes = [9i16; 4097];
+    let mut marks = [9u8; 1025];
     let mut values = [9u8; 1025];
     let mut levels = [9u16; 1025];
     let book = read(
@@ -55,6 +59,7 @@ fn show_long(name: &[u8], text: &[u8]) {
         &mut loads,
         &mut load_literals,
         &mut minutes,
+        &mut marks,
         &mut values,
         &mut levels,
     );
@@ -66,6 +71,7 @@ fn show_long(name: &[u8], text: &[u8]) {
         &loads[256..260],
         &load_literals[4096..4097],
         &minutes[4096..4097],
+        &marks[1024..1025],
         &values[1024..1025],
         &levels[1024..1025],
     );

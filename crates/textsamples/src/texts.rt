@@ -29,6 +29,7 @@ pub fn show_text(name: &[u8], text: &[u8]) {
     let mut loads = [0i32; 256];
     let mut load_literals = [0u16; 4096];
     let mut minutes = [0i16; 4096];
+    let mut marks = [0u8; 1024];
     let mut values = [0u8; 1024];
     let mut levels = [0u16; 1024];
     let book = read(
@@ -39,6 +40,7 @@ pub fn show_text(name: &[u8], text: &[u8]) {
         &mut loads,
         &mut load_literals,
         &mut minutes,
+        &mut marks,
         &mut values,
         &mut levels,
     );
@@ -120,6 +122,100 @@ fn run_open_atoms() {
     show_text(b"open-atom-of-N", b"(atoms 3)\n(open 3)\n");
 }
 
+// Atoms declared defined, in order and out of it.
+fn run_defined_atoms() {
+    show_text(b"defined-1023-first", b"(defined 1023)\n");
+    show_text(b"defined-1024-first", b"(defined 1024)\n");
+    show_text(
+        b"defined-atoms-equal",
+        b"(atoms 3)\n(defined 1 1)\n(open)\n",
+    );
+    show_text(
+        b"defined-atoms-falling",
+        b"(atoms 3)\n(defined 2 1)\n(open)\n",
+    );
+    show_text(
+        b"defined-atoms-rising",
+        b"(atoms 3)\n(defined 0 2)\n(open)\n",
+    );
+    show_text(b"defined-atom-of-N", b"(atoms 3)\n(defined 3)\n(open)\n");
+    show_text(
+        b"no-atoms-and-defined-0",
+        b"(atoms 0)\n(defined 0)\n(open)\n",
+    );
+}
+
+// Defined forms elsewhere than right after the atoms form.
+fn run_defined_places() {
+    show_text(
+        b"second-defined-form",
+        b"(atoms 3)\n(defined 0)\n(defined 1)\n(open)\n",
+    );
+    show_text(
+        b"second-defined-form-with-atom-N",
+        b"(atoms 3)\n(defined 0)\n(defined 3)\n(open)\n",
+    );
+    show_text(
+        b"defined-after-rule",
+        b"(atoms 1)\n(rule 0)\n(defined 0)\n(open)\n",
+    );
+    show_text(
+        b"defined-after-clause",
+        b"(atoms 1)\n(clause 0)\n(defined 0)\n(open)\n",
+    );
+    show_text(
+        b"defined-after-load",
+        b"(atoms 1)\n(load 0 0)\n(defined 0)\n(open)\n",
+    );
+    show_text(
+        b"defined-after-the-state",
+        b"(atoms 1)\n(open)\n(defined 0)\n",
+    );
+}
+
+// Defined forms that are none, and what may follow one that is.
+fn run_defined_forms() {
+    show_text(b"defined-without-atoms", b"(atoms 1)\n(defined)\n(open)\n");
+    show_text(
+        b"defined-with-a-literal",
+        b"(atoms 1)\n(defined (not 0))\n(open)\n",
+    );
+    show_text(
+        b"space-after-a-defined-atom",
+        b"(atoms 1)\n(defined 0 )\n(open)\n",
+    );
+    show_text(b"defined-and-no-state", b"(atoms 1)\n(defined 0)\n");
+    show_text(
+        b"atoms-form-after-defined",
+        b"(atoms 1)\n(defined 0)\n(atoms 1)\n(open)\n",
+    );
+    show_text(
+        b"rule-after-defined",
+        b"(atoms 1)\n(defined 0)\n(rule 0)\n(open)\n",
+    );
+    show_text(
+        b"claim-after-defined",
+        b"(atoms 1)\n(defined 0)\n(claim (0 1))\n",
+    );
+}
+
+// The highest atom of the largest book, and a form that names none, wherever it stands.
+fn run_defined_limits() {
+    show_text(
+        b"defined-1023-of-1024-atoms",
+        b"(atoms 1024)\n(defined 1023)\n(open)\n",
+    );
+    show_text(
+        b"defined-1024-of-1024-atoms",
+        b"(atoms 1024)\n(defined 1024)\n(open)\n",
+    );
+    show_text(b"defined-without-atoms-first", b"(defined)\n");
+    show_text(
+        b"defined-without-atoms-after-rule",
+        b"(atoms 1)\n(rule 0)\n(defined)\n(open)\n",
+    );
+}
+
 // Claims with other pairs than one for each atom, and books with no atoms.
 fn run_claim_pairs() {
     show_text(b"claim-pair-missing", b"(atoms 2)\n(claim (0 0))\n");
@@ -190,6 +286,10 @@ pub fn run_texts() {
     run_missing();
     run_order();
     run_open_atoms();
+    run_defined_atoms();
+    run_defined_places();
+    run_defined_forms();
+    run_defined_limits();
     run_claim_pairs();
     run_atom_limits();
     run_load_limits();

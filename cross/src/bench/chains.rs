@@ -20,7 +20,7 @@ pub enum Chain {
 pub fn book(chain: Chain, n: usize, random: &mut Random) -> (Book, Vec<u8>) {
     let first = n / 8;
     let mut open: Vec<u8> = (0..first).map(|_| random.below(2) as u8).collect();
-    let mut book = Book { n, ..Book::default() };
+    let mut book = Book::of_atoms(n);
     for place in first..n {
         let atom = if chain == Chain::Reverse { first + n - 1 - place } else { place };
         book.add_rule(atom as u16, &body(chain, atom, n, &open, random));

@@ -41,7 +41,7 @@ fn not(atom: u16) -> i32 {
 /// A book of `n` atoms, a multiple of 16, and the values of its open atoms.
 pub fn book(n: usize, random: &mut Random) -> (Book, Vec<u8>) {
     let calls = n / ATOMS;
-    let mut book = Book { n, ..Book::default() };
+    let mut book = Book::of_atoms(n);
     let mut open = vec![0; n];
     for call in 0..calls {
         for atom in FIRST_ACCEPTS..=SECOND_STANDS_BY {
@@ -56,6 +56,20 @@ pub fn book(n: usize, random: &mut Random) -> (Book, Vec<u8>) {
     for pair in 0..calls / CALLS_OF_PAIR {
         add_duty(&mut book, pair, [FIRST_BOARDS, FIRST_RETURNS], random);
         add_duty(&mut book, pair, [SECOND_BOARDS, SECOND_RETURNS], random);
+    }
+    (book, open)
+}
+
+/// The same book after rules were withdrawn: nobody stands by and no officer is reached any more, which the book declares together with
+/// what it still derives of boarding.
+pub fn withdrawn(n: usize, random: &mut Random) -> (Book, Vec<u8>) {
+    let (mut book, mut open) = book(n, random);
+    for call in 0..n / ATOMS {
+        for atom in [OFFICER_REACHED, SECOND_STANDS_BY, FIRST_BOARDS, SECOND_BOARDS] {
+            let atom = call * ATOMS + usize::from(atom);
+            book.marks[atom] = 1;
+            open[atom] = 0;
+        }
     }
     (book, open)
 }

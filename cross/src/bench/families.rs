@@ -14,16 +14,18 @@ pub enum Family {
     Random,
     Chain(Chain),
     Dispatch,
+    Withdrawn,
 }
 
 impl Family {
-    pub const ALL: [Family; 6] = [
+    pub const ALL: [Family; 7] = [
         Family::Random,
         Family::Chain(Chain::Forward),
         Family::Chain(Chain::Reverse),
         Family::Chain(Chain::Negated),
         Family::Chain(Chain::Loop),
         Family::Dispatch,
+        Family::Withdrawn,
     ];
 
     pub fn name(self) -> &'static str {
@@ -34,6 +36,7 @@ impl Family {
             Family::Chain(Chain::Negated) => "negation chain",
             Family::Chain(Chain::Loop) => "one loop",
             Family::Dispatch => "dispatch",
+            Family::Withdrawn => "withdrawn rules",
         }
     }
 }
@@ -78,6 +81,7 @@ fn sample(family: Family, measure: Measure, random: &mut Random) -> Sample {
         Family::Random => mixed::rules(measure, random),
         Family::Chain(chain) => chains::book(chain, measure.atoms, random),
         Family::Dispatch => dispatch::book(measure.atoms, random),
+        Family::Withdrawn => dispatch::withdrawn(measure.atoms, random),
     };
     let (mut claim, mut rounds) = made(&book, &open);
     if family == Family::Random {

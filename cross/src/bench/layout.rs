@@ -31,6 +31,9 @@ impl Book {
 pub fn lines(book: &Book) -> String {
     let part = |start: u16, count: u16| written(&book.literals[usize::from(start)..usize::from(start + count)]);
     let mut text = format!("(atoms {})\n", book.n);
+    if book.marks.contains(&1) {
+        text += &format!("(defined{})\n", named(&book.marks));
+    }
     for row in book.rules.chunks(3) {
         text += &format!("(rule {}{})\n", row[0], part(row[1], row[2]));
     }
@@ -48,8 +51,13 @@ pub fn lines(book: &Book) -> String {
 }
 
 pub fn open_form(open: &[u8]) -> String {
-    let named = (0..open.len()).filter(|&atom| open[atom] == 1);
-    format!("(open{})\n", named.map(|atom| format!(" {atom}")).collect::<String>())
+    format!("(open{})\n", named(open))
+}
+
+/// Each atom with a 1, with a space before it.
+fn named(atoms: &[u8]) -> String {
+    let named = (0..atoms.len()).filter(|&atom| atoms[atom] == 1);
+    named.map(|atom| format!(" {atom}")).collect()
 }
 
 pub fn claim_form(claim: &Claim) -> String {

@@ -91,6 +91,7 @@ pub struct Lent {
     loads: Vec<i32>,
     load_literals: Vec<u16>,
     minutes: Vec<i16>,
+    marks: Vec<u8>,
     values: Vec<u8>,
     levels: Vec<u16>,
     work: Vec<u16>,
@@ -106,6 +107,7 @@ impl Default for Lent {
             loads: vec![0; 256],
             load_literals: vec![0; 4_096],
             minutes: vec![0; 4_096],
+            marks: vec![0; 1_024],
             values: vec![0; 1_024],
             levels: vec![0; 1_024],
             work: vec![0; 1_024],
@@ -123,6 +125,7 @@ impl Lent {
             loads: &mut self.loads,
             load_literals: &mut self.load_literals,
             minutes: &mut self.minutes,
+            marks: &mut self.marks,
             values: &mut self.values,
             levels: &mut self.levels,
         };

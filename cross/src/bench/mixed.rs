@@ -57,7 +57,7 @@ pub fn rules(measure: Measure, random: &mut Random) -> (Book, Vec<u8>) {
     while heads.len() < measure.rules {
         heads.push(first + random.below(n - first));
     }
-    let mut book = Book { n, ..Book::default() };
+    let mut book = Book::of_atoms(n);
     let mut left = measure.body_literals;
     for drawn in 0..heads.len() {
         let other = drawn + random.below(heads.len() - drawn);

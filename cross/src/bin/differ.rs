@@ -2,11 +2,10 @@
 //!
 //!     differ [--seed S] [--count C] [--family NAME] [--program FILE] [--refusals FILE] [--faults]
 //!
-//! S chooses the random cases, C how many rounds each random family makes; with NAME only this family is run. The first
-//! difference is printed with the smallest case that shows it, and the status is then 1. With `--faults` each deliberate fault is
-//! put into the solver in turn, and the status is 0 only if every one is noticed.
+//! S chooses the random cases, C how many rounds each random family makes (half as many in the families with marks); with NAME
+//! only this family is run. The first difference is printed with the smallest case that shows it, and the status is then 1. With
+//! `--faults` each deliberate fault is put into the solver in turn, and the status is 0 only if every one is noticed.
 
-use cross::random::Random;
 use cross::{
     calls::Library,
     differ::{
@@ -28,7 +27,7 @@ use std::{
 };
 
 /// The numbers of the paper. A run in which one of them never is the verdict has lost what it was there for.
-const NUMBERS: [u32; 19] = [0, 1, 2, 3, 4, 11, 12, 13, 14, 15, 16, 17, 21, 22, 23, 24, 25, 26, 27];
+const NUMBERS: [u32; 20] = [0, 1, 2, 3, 4, 11, 12, 13, 14, 15, 16, 17, 21, 22, 23, 24, 25, 26, 27, 31];
 
 struct Options {
     seed: u64,
@@ -90,8 +89,8 @@ fn options(mut arguments: impl Iterator<Item = String>) -> Result<Options, Strin
     Ok(options)
 }
 
-/// The families to be run, each with its place among all, which it takes its seed from.
-fn families_of(options: &Options) -> Result<Vec<(usize, Family)>, String> {
+/// The families to be run.
+fn families_of(options: &Options) -> Result<Vec<Family>, String> {
     let named = |file: &Path, error: io::Error| format!("{}: {error}", file.display());
     fs::metadata(&options.program).map_err(|error| named(&options.program, error))?;
     let page = fs::read_to_string(&options.refusals).map_err(|error| named(&options.refusals, error))?;
@@ -102,26 +101,25 @@ fn families_of(options: &Options) -> Result<Vec<(usize, Family)>, String> {
         Some(name) => Err(format!("{name} is none of the families {}", names.join(", "))),
         None => {
             let wanted = |family: &Family| options.family.as_ref().is_none_or(|name| name == family.name);
-            Ok(all.into_iter().enumerate().filter(|(_, family)| wanted(family)).collect())
+            Ok(all.into_iter().filter(wanted).collect())
         }
     }
 }
 
 /// Runs one family in a session of its own, so that its cases do not depend on the families before.
-fn run<'a>(family: &(usize, Family), options: &Options, solver: Solver, sides: &[Side<'a>]) -> (Session<'a>, Option<Box<Found>>) {
-    let random = Random::new(options.seed.wrapping_mul(1_000).wrapping_add(family.0 as u64));
-    let mut session = Session::new(solver, sides, random, options.count);
-    let found = family.1.run(&mut session).err();
+fn run<'a>(family: &Family, options: &Options, solver: Solver, sides: &[Side<'a>]) -> (Session<'a>, Option<Box<Found>>) {
+    let mut session = Session::new(solver, sides, family.random(options.seed), options.count);
+    let found = family.run(&mut session).err();
     (session, found)
 }
 
 /// Whether nothing differs. The name of a family is printed before it is run, so that it is known if a side does not return.
-fn compare(options: &Options, families: &[(usize, Family)]) -> bool {
+fn compare(options: &Options, families: &[Family]) -> bool {
     let sides = [Side::Calls(&Library), Side::Calls(&Fast), Side::Program(&options.program)];
     let mut all = 0;
     let mut numbers = BTreeMap::new();
     for family in families {
-        print!("{}: ", family.1.name);
+        print!("{}: ", family.name);
         io::stdout().flush().expect("standard output takes what is printed");
         let start = Instant::now();
         let (session, found) = run(family, options, Solver::default(), &sides);
@@ -145,19 +143,19 @@ fn compare(options: &Options, families: &[(usize, Family)]) -> bool {
 }
 
 /// Whether each fault makes a difference to the library or the program.
-fn notice_faults(options: &Options, families: &[(usize, Family)]) -> bool {
+fn notice_faults(options: &Options, families: &[Family]) -> bool {
     let noticed = Fault::ALL.iter().filter(|&&fault| notice(fault, options, families)).count();
     println!("differ: {noticed} of {} faults noticed", Fault::ALL.len());
     noticed == Fault::ALL.len()
 }
 
-fn notice(fault: Fault, options: &Options, families: &[(usize, Family)]) -> bool {
+fn notice(fault: Fault, options: &Options, families: &[Family]) -> bool {
     let sides = [Side::Calls(&Library), Side::Program(&options.program)];
     println!("fault: {}", fault.describe());
     for family in families {
         let (session, found) = run(family, options, Solver { fault: Some(fault) }, &sides);
         if let Some(found) = found {
-            println!("noticed by {}, case {}: {}\n{}", family.1.name, session.cases, found.what, found.case);
+            println!("noticed by {}, case {}: {}\n{}", family.name, session.cases, found.what, found.case);
             return true;
         }
     }

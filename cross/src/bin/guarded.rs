@@ -14,7 +14,6 @@ use cross::differ::{
     session::Session,
     side::Side,
 };
-use cross::random::Random;
 use cross::solver::Solver;
 use std::{env, process::ExitCode};
 
@@ -52,9 +51,8 @@ fn numbers(arguments: &[&str]) -> Option<(u64, usize)> {
 
 fn run(seed: u64, count: usize) -> ExitCode {
     let library = GuardedLibrary::default();
-    for (place, family) in families::all(Vec::new()).iter().enumerate() {
-        let random = Random::new(seed.wrapping_mul(1_000).wrapping_add(place as u64));
-        let mut session = Session::new(Solver::default(), &[Side::Calls(&library)], random, count);
+    for family in families::all(Vec::new()) {
+        let mut session = Session::new(Solver::default(), &[Side::Calls(&library)], family.random(seed), count);
         if let Err(found) = family.run(&mut session) {
             println!("{}: {}\n{}", family.name, found.what, found.case);
             return ExitCode::FAILURE;

@@ -37,6 +37,31 @@ impl Shape {
     ];
 }
 
+/// Whether the books of a family declare atoms. Those of a family that does not are the books from before atoms could be declared.
+#[derive(Clone, Copy, PartialEq, Eq)]
+pub enum Marking {
+    None,
+    Some,
+}
+
+impl Marking {
+    /// Declares all atoms of a book, some of those without a rule, some of those with one, or some of either kind.
+    pub fn declare(self, random: &mut Random, forms: &mut Forms) {
+        if self == Marking::None {
+            return;
+        }
+        let heads = forms.defined();
+        let which = random.below(5);
+        let mut chosen = |atom: &u16| match which {
+            0 => true,
+            1 => !heads[usize::from(*atom)] && random.one_in(2),
+            2 => heads[usize::from(*atom)] && random.one_in(2),
+            _ => random.one_in(3),
+        };
+        forms.declared = (0..forms.n as u16).filter(|atom| chosen(atom)).collect();
+    }
+}
+
 /// The limits of the paper: rules, and literals of rules and clauses together.
 const MOST_RULES: usize = 2_048;
 const MOST_LITERALS: usize = 16_384;

@@ -133,7 +133,8 @@ fn show_tables(out: &mut Formatter, book: &Book) -> Result {
     show_list(out, "clauses", &book.clauses)?;
     show_list(out, "loads", &book.loads)?;
     show_list(out, "load literals", &book.load_literals)?;
-    show_list(out, "minutes", &book.minutes)
+    show_list(out, "minutes", &book.minutes)?;
+    show_list(out, "marks", &book.marks)
 }
 
 fn show_list<T: Debug>(out: &mut Formatter, name: &str, list: &[T]) -> Result {

@@ -19,6 +19,17 @@ pub fn damaged(random: &mut Random, text: &[u8]) -> Vec<u8> {
     }
 }
 
+/// A `(defined ..)` line more, wherever it falls: with no atom or up to three, about those of a book of n atoms.
+pub fn defined_line_added(random: &mut Random, text: &[u8], n: usize) -> Vec<u8> {
+    let last = n.saturating_sub(1);
+    let atoms: String =
+        (0..random.below(4)).map(|_| format!(" {}", random.pick(&[0, 1, 2, last, last, n, 1_023, 1_024]))).collect();
+    let line = format!("(defined{atoms})\n");
+    let mut lines = lines(text);
+    lines.insert(random.below(lines.len() + 1), line.as_bytes());
+    lines.concat()
+}
+
 /// A place in the text, or its end if it is empty.
 fn place(random: &mut Random, text: &[u8]) -> usize {
     random.below(text.len().max(1)).min(text.len())

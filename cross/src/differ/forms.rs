@@ -38,6 +38,8 @@ pub fn literal_true(literal: u16, values: &[u8]) -> bool {
 #[derive(Clone, Default)]
 pub struct Forms {
     pub n: usize,
+    /// Declared atoms, rising.
+    pub declared: Vec<u16>,
     pub rules: Vec<Rule>,
     pub clauses: Vec<Vec<u16>>,
     pub loads: Vec<Load>,
@@ -46,7 +48,10 @@ pub struct Forms {
 impl Forms {
     /// The tables, rows laid down consecutively as the reader does it.
     pub fn book(&self) -> Book {
-        let mut book = Book { n: self.n, ..Book::default() };
+        let mut book = Book::of_atoms(self.n);
+        for &atom in &self.declared {
+            book.marks[usize::from(atom)] = 1;
+        }
         for rule in &self.rules {
             book.rules.extend([rule.head, book.literals.len() as u16, rule.body.len() as u16]);
             book.literals.extend(&rule.body);
@@ -63,7 +68,7 @@ impl Forms {
         book
     }
 
-    /// The forms that stand in tables, or nothing if a table has no whole rows or a row is past the end.
+    /// The forms that stand in tables, or nothing if a table has no whole rows, a row is past the end or marks are bad.
     pub fn of(book: &Book) -> Option<Forms> {
         let whole =
             book.rules.len().is_multiple_of(3) && book.clauses.len().is_multiple_of(2) && book.loads.len().is_multiple_of(4);
@@ -76,6 +81,7 @@ impl Forms {
         let loads = book.loads.chunks_exact(4).map(|row| load_of(book, row));
         Some(Forms {
             n: book.n,
+            declared: declared_in(book)?,
             rules: rules.collect::<Option<_>>()?,
             clauses: clauses.collect::<Option<_>>()?,
             loads: loads.collect::<Option<_>>()?,
@@ -85,6 +91,9 @@ impl Forms {
     /// The text of the book with this state form.
     pub fn text(&self, state: &str) -> Vec<u8> {
         let mut text = format!("(atoms {})\n", self.n);
+        if !self.declared.is_empty() {
+            put_list(&mut text, "defined", self.declared.iter().map(u16::to_string));
+        }
         for rule in &self.rules {
             put_list(&mut text, &format!("rule {}", rule.head), rule.body.iter().map(|&literal| shown(literal)));
         }
@@ -106,10 +115,19 @@ impl Forms {
         clauses && self.loads.iter().all(|load| (load.lo..=load.hi).contains(&load.sum(values)))
     }
 
-    /// Whether each atom heads a rule.
+    /// Whether each atom is declared or heads a rule.
     pub fn defined(&self) -> Vec<bool> {
-        (0..self.n).map(|atom| self.rules.iter().any(|rule| rule.head as usize == atom)).collect()
+        let heads = self.rules.iter().map(|rule| rule.head);
+        let mut defined = vec![false; self.n];
+        heads.chain(self.declared.iter().copied()).for_each(|atom| defined[usize::from(atom)] = true);
+        defined
     }
+}
+
+/// The atoms of mark 1, or nothing if there are not N marks or one is neither 0 nor 1.
+fn declared_in(book: &Book) -> Option<Vec<u16>> {
+    let sound = book.marks.len() == book.n && book.marks.iter().all(|&mark| mark <= 1);
+    sound.then(|| (0..book.n).filter(|&atom| book.marks[atom] == 1).map(|atom| atom as u16).collect())
 }
 
 fn load_of(book: &Book, row: &[i32]) -> Option<Load> {

@@ -12,6 +12,7 @@ struct TablePages {
     loads: Pages,
     load_literals: Pages,
     minutes: Pages,
+    marks: Pages,
 }
 
 impl TablePages {
@@ -24,6 +25,7 @@ impl TablePages {
             loads: self.loads.lend_to_read(tables.loads, edge),
             load_literals: self.load_literals.lend_to_read(tables.load_literals, edge),
             minutes: self.minutes.lend_to_read(tables.minutes, edge),
+            marks: self.marks.lend_to_read(tables.marks, edge),
         }
     }
 }
@@ -50,6 +52,7 @@ struct Contents {
     loads: Vec<i32>,
     load_literals: Vec<u16>,
     minutes: Vec<i16>,
+    marks: Vec<u8>,
     values: Vec<u8>,
     levels: Vec<u16>,
     answer: Vec<u32>,
@@ -64,6 +67,7 @@ impl Contents {
             loads: tables.loads.to_vec(),
             load_literals: tables.load_literals.to_vec(),
             minutes: tables.minutes.to_vec(),
+            marks: tables.marks.to_vec(),
             values: tables.values.to_vec(),
             levels: tables.levels.to_vec(),
             answer: answer.to_vec(),
@@ -77,6 +81,7 @@ impl Contents {
         tables.loads.copy_from_slice(&self.loads);
         tables.load_literals.copy_from_slice(&self.load_literals);
         tables.minutes.copy_from_slice(&self.minutes);
+        tables.marks.copy_from_slice(&self.marks);
         tables.values.copy_from_slice(&self.values);
         tables.levels.copy_from_slice(&self.levels);
         answer.copy_from_slice(&self.answer);
@@ -158,6 +163,7 @@ impl Calls for GuardedLibrary {
                 loads: pages.tables.loads.lend_to_write(&before.loads, edge),
                 load_literals: pages.tables.load_literals.lend_to_write(&before.load_literals, edge),
                 minutes: pages.tables.minutes.lend_to_write(&before.minutes, edge),
+                marks: pages.tables.marks.lend_to_write(&before.marks, edge),
                 values: pages.values.lend_to_write(&before.values, edge),
                 levels: pages.levels.lend_to_write(&before.levels, edge),
             };
@@ -183,6 +189,7 @@ fn again<'a>(tables: &'a mut TablesToFill) -> TablesToFill<'a> {
         loads: tables.loads,
         load_literals: tables.load_literals,
         minutes: tables.minutes,
+        marks: tables.marks,
         values: tables.values,
         levels: tables.levels,
     }

@@ -7,7 +7,7 @@ use crate::{
     calls::{Tables, TablesToFill},
 };
 
-/// The six tables of a book.
+/// The seven tables of a book.
 #[derive(Clone, PartialEq)]
 pub struct TableBuffers {
     pub rules: Buffer<u16>,
@@ -16,6 +16,7 @@ pub struct TableBuffers {
     pub loads: Buffer<i32>,
     pub load_literals: Buffer<u16>,
     pub minutes: Buffer<i16>,
+    pub marks: Buffer<u8>,
 }
 
 impl TableBuffers {
@@ -27,6 +28,7 @@ impl TableBuffers {
             loads: Buffer::holding(&book.loads, random),
             load_literals: Buffer::holding(&book.load_literals, random),
             minutes: Buffer::holding(&book.minutes, random),
+            marks: Buffer::holding(&book.marks, random),
         }
     }
 
@@ -38,6 +40,7 @@ impl TableBuffers {
             loads: Buffer::arbitrary(lent.loads, random),
             load_literals: Buffer::arbitrary(lent.load_literals, random),
             minutes: Buffer::arbitrary(lent.minutes, random),
+            marks: Buffer::arbitrary(lent.marks, random),
         }
     }
 
@@ -50,6 +53,7 @@ impl TableBuffers {
             loads: self.loads.lent(),
             load_literals: self.load_literals.lent(),
             minutes: self.minutes.lent(),
+            marks: self.marks.lent(),
         }
     }
 
@@ -61,9 +65,10 @@ impl TableBuffers {
         self.loads.write(&book.loads);
         self.load_literals.write(&book.load_literals);
         self.minutes.write(&book.minutes);
+        self.marks.write(&book.marks);
     }
 
-    fn differences(&self, found: &TableBuffers) -> [(&'static str, Option<String>); 6] {
+    fn differences(&self, found: &TableBuffers) -> [(&'static str, Option<String>); 7] {
         [
             ("rules", self.rules.first_difference(&found.rules)),
             ("literals", self.literals.first_difference(&found.literals)),
@@ -71,6 +76,7 @@ impl TableBuffers {
             ("loads", self.loads.first_difference(&found.loads)),
             ("load literals", self.load_literals.first_difference(&found.load_literals)),
             ("minutes", self.minutes.first_difference(&found.minutes)),
+            ("marks", self.marks.first_difference(&found.marks)),
         ]
     }
 }
@@ -145,6 +151,7 @@ impl Lending {
             loads: self.tables.loads.lent_mut(),
             load_literals: self.tables.load_literals.lent_mut(),
             minutes: self.tables.minutes.lent_mut(),
+            marks: self.tables.marks.lent_mut(),
             values: self.values.lent_mut(),
             levels: self.levels.lent_mut(),
         };

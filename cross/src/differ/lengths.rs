@@ -1,10 +1,11 @@
 //! Lengths of the tables that are lent to a reader: just so, one entry short, or any.
 
+use super::books::Marking;
 use crate::book::{Lengths, Read};
 use crate::random::Random;
 
-/// Lengths about those that a text needs, which `read` was read from.
-pub fn about(random: &mut Random, read: &Read) -> Lengths {
+/// Lengths about those that a text needs, which `read` was read from. Without marking there are marks for every book.
+pub fn about(random: &mut Random, read: &Read, marking: Marking) -> Lengths {
     let book = &read.book;
     Lengths {
         rules: near(random, book.rules.len()),
@@ -15,6 +16,10 @@ pub fn about(random: &mut Random, read: &Read) -> Lengths {
         minutes: near(random, book.minutes.len()),
         values: near(random, book.n),
         levels: near(random, book.n),
+        marks: match marking {
+            Marking::None => Lengths::FULL.marks,
+            Marking::Some => near(random, book.n),
+        },
     }
 }
 

@@ -1,7 +1,7 @@
 //! Compares the library, the fast solver and the program with the solver that follows the paper, case by case, and finds the
 //! smallest case that shows a difference.
 
-mod books;
+pub mod books;
 mod buffer;
 mod by_trying;
 pub mod case;

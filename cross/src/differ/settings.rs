@@ -2,7 +2,7 @@
 
 use crate::random::Random;
 
-/// Every setting. `defined` says of each atom whether it heads a rule.
+/// Every setting. `defined` says of each atom whether it is declared or heads a rule.
 pub fn every(defined: &[bool]) -> Vec<Vec<u8>> {
     let mut settings = vec![vec![]];
     for &defined in defined {

@@ -65,7 +65,7 @@ fn an_entry_too_many_is_noticed() {
     assert!(read.what.contains("levels[1023] of 1024"), "{}", read.what);
     let page = session(&OneEntryMore).compare(Case::report(TEXT, PAGE_SIZE)).expect_err("a byte after the report was written");
     assert!(page.what.contains("page[") && page.what.contains(&format!("of {PAGE_SIZE}")), "{}", page.what);
-    let book = Book { n: 1, ..Book::default() };
+    let book = Book::of_atoms(1);
     let made = session(&OneEntryMore).compare(Case::evaluate(&book, &[0])).expect_err("work was written");
     assert!(made.what.contains("work[0] of 1 is 1 instead of 0"), "{}", made.what);
 }
@@ -81,9 +81,10 @@ fn noticed(case: &Case, change: impl Fn(&mut Lending)) -> Option<String> {
 
 #[test]
 fn a_changed_slice_that_is_only_read_is_noticed() {
-    let check = Case::check(&Book { n: 2, literals: vec![0, 1], ..Book::default() }, &[1, 0], &[0, 0]);
+    let check = Case::check(&Book { literals: vec![0, 1], ..Book::of_atoms(2) }, &[1, 0], &[0, 0]);
     assert_eq!(noticed(&check, |_| {}), None);
     assert!(noticed(&check, |after| after.tables.literals.lent_mut()[1] = 7).is_some_and(|what| what.contains("literals[1]")));
+    assert!(noticed(&check, |after| after.tables.marks.lent_mut()[1] = 7).is_some_and(|what| what.contains("marks[1]")));
     assert!(noticed(&check, |after| after.values.lent_mut()[0] = 7).is_some_and(|what| what.contains("values[0]")));
 }
 
@@ -98,16 +99,16 @@ fn the_smallest_text_has_what_differs_and_no_more() {
 fn the_smallest_tables_have_what_differs_and_no_more() {
     let literals = (0..40).map(|place| place % 8).collect();
     let rules = (0..10).flat_map(|row| [row % 4, 4 * row, 4]).collect();
-    let book = Book { n: 4, rules, literals, ..Book::default() };
+    let book = Book { rules, literals, marks: vec![0, 1, 1, 0], ..Book::of_atoms(4) };
     let needed = |case: &Case| match case {
         Case::Check { book, .. } => {
             let body = |row: &[u16]| book.literals[row[1] as usize..][..row[2] as usize].to_vec();
-            book.n > 1 && book.rules.chunks_exact(3).any(|row| row[0] == 1 && body(row).contains(&3))
+            book.n > 1 && book.marks.contains(&1) && book.rules.chunks_exact(3).any(|row| row[0] == 1 && body(row).contains(&3))
         }
         _ => false,
     };
     let Case::Check { book, values, .. } = smallest(Case::check(&book, &[0; 4], &[1; 4]), needed) else { panic!("another call") };
-    assert_eq!(book, Book { n: 2, rules: vec![1, 0, 1], literals: vec![3], ..Book::default() });
+    assert_eq!(book, Book { rules: vec![1, 0, 1], literals: vec![3], marks: vec![0, 1], ..Book::of_atoms(2) });
     assert_eq!(values.len(), 2);
 }
 

@@ -6,7 +6,7 @@ use crate::calls::Tables;
 
 pub fn check(t: Tables, values: &[u8], levels: &[u16]) -> Verdict {
     let lengths = || faults::of_lengths(t.n, &[values.len(), levels.len()]);
-    if let Some(fault) = faults::of_tables(&t).or_else(lengths) {
+    if let Some(fault) = faults::of_tables(&t).or_else(lengths).or_else(|| faults::of_marks(&t)) {
         return fault;
     }
     let claim = Claim { values, levels };
@@ -17,9 +17,12 @@ pub fn check(t: Tables, values: &[u8], levels: &[u16]) -> Verdict {
     satisfaction::verdict(&t, values)
 }
 
-/// Which atoms head a rule.
+/// Which atoms are declared or head a rule.
 pub fn defined_atoms(t: &Tables) -> [bool; 1_024] {
     let mut defined = [false; 1_024];
+    for (is, &mark) in defined.iter_mut().zip(t.marks) {
+        *is = mark == 1;
+    }
     for row in t.rules.chunks_exact(3) {
         defined[usize::from(row[0])] = true;
     }

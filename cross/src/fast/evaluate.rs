@@ -12,7 +12,7 @@ const UNDECIDED: u8 = 2;
 /// Rounds and verdict.
 pub fn evaluate(t: Tables, open: &[u8], values: &mut [u8], levels: &mut [u16], work: &mut [u16]) -> (u32, Verdict) {
     let lengths = || faults::of_lengths(t.n, &[open.len(), values.len(), levels.len(), work.len()]);
-    if let Some(fault) = faults::of_tables(&t).or_else(lengths) {
+    if let Some(fault) = faults::of_tables(&t).or_else(lengths).or_else(|| faults::of_marks(&t)) {
         return (0, fault);
     }
     let defined = defined_atoms(&t);

@@ -1,4 +1,4 @@
-//! Faults 11 to 17: of the host that lends the tables.
+//! Faults 11 to 17 and 31: of the host that lends the tables.
 
 use crate::book::Verdict;
 use crate::calls::Tables;
@@ -19,6 +19,18 @@ pub fn of_tables(t: &Tables) -> Option<Verdict> {
 /// Fault 17: a slice that should have N entries has not.
 pub fn of_lengths(n: usize, lengths: &[usize]) -> Option<Verdict> {
     lengths.iter().any(|&length| length != n).then(|| Verdict::refused(17, 0))
+}
+
+/// Fault 31: the marks are not N, or one of them is neither 0 nor 1. As with literals, a maximum tells that no mark is bad.
+pub fn of_marks(t: &Tables) -> Option<Verdict> {
+    if t.marks.len() != t.n {
+        return Some(Verdict::refused(31, 0));
+    }
+    let largest = t.marks.iter().copied().max().unwrap_or(0);
+    if largest <= 1 {
+        return None;
+    }
+    t.marks.iter().position(|&mark| mark > 1).map(|atom| Verdict::refused(31, atom))
 }
 
 fn wrong_size(t: &Tables) -> bool {

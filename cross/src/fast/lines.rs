@@ -1,4 +1,4 @@
-//! The six forms. Each is read from behind its word to behind its byte 10 and stored where it has a place; what is stored of a line
+//! The seven forms. Each is read from behind its word to behind its byte 10 and stored where it has a place; what is stored of a line
 //! that is refused does not matter, since a refused text is never copied out.
 
 use super::reader::{FullTables, Used};
@@ -119,13 +119,24 @@ fn terms(text: &[u8], mut at: usize, tables: &mut FullTables, used: &mut Used) -
     Some((at, within))
 }
 
-/// `limit` is N, or 1,024 before an atoms line.
-pub fn open(text: &[u8], mut at: usize, limit: usize, tables: &mut FullTables) -> Option<Line> {
+/// At least one atom; the caller has seen the space before it. `limit` is N, or 1,024 before an atoms line.
+pub fn defined(text: &[u8], at: usize, limit: usize, tables: &mut FullTables) -> Option<Line> {
+    named_atoms(text, at, &mut tables.marks[..limit])
+}
+
+/// `limit` is as for `defined`.
+pub fn open(text: &[u8], at: usize, limit: usize, tables: &mut FullTables) -> Option<Line> {
+    named_atoms(text, at, &mut tables.values[..limit])
+}
+
+/// Rising atoms up to the end of the line, each with a place in a table of 0, which becomes 1.
+#[inline(always)]
+fn named_atoms(text: &[u8], mut at: usize, table: &mut [u8]) -> Option<Line> {
     let (mut within, mut rising, mut least) = (true, true, 0);
     while another(text, at)? {
         let (atom, next) = number(text, at + 1)?;
-        match tables.values[..limit].get_mut(atom as usize) {
-            Some(value) => *value = 1,
+        match table.get_mut(atom as usize) {
+            Some(place) => *place = 1,
             None => within = false,
         }
         rising &= atom >= least;

@@ -101,6 +101,7 @@ fn lengths(lent: &TablesToFill) -> Lengths {
         loads: lent.loads.len(),
         load_literals: lent.load_literals.len(),
         minutes: lent.minutes.len(),
+        marks: lent.marks.len(),
         values: lent.values.len(),
         levels: lent.levels.len(),
     }

@@ -16,6 +16,7 @@ pub struct FullTables {
     pub loads: [i32; 256],
     pub load_literals: [u16; 4_096],
     pub minutes: [i16; 4_096],
+    pub marks: [u8; 1_024],
     pub values: [u8; 1_024],
     pub levels: [u16; 1_024],
 }
@@ -50,6 +51,7 @@ impl FullTables {
             loads: [0; 256],
             load_literals: [0; 4_096],
             minutes: [0; 4_096],
+            marks: [0; 1_024],
             values: [0; 1_024],
             levels: [0; 1_024],
         }
@@ -64,6 +66,7 @@ impl FullTables {
             loads: &self.loads[..used.loads],
             load_literals: &self.load_literals[..used.terms],
             minutes: &self.minutes[..used.terms],
+            marks: &self.marks[..used.n],
         }
     }
 
@@ -76,6 +79,7 @@ impl FullTables {
         lent.loads[..used.loads].copy_from_slice(from.loads);
         lent.load_literals[..used.terms].copy_from_slice(from.load_literals);
         lent.minutes[..used.terms].copy_from_slice(from.minutes);
+        lent.marks[..used.n].copy_from_slice(from.marks);
         lent.values[..used.n].copy_from_slice(&self.values[..used.n]);
         if used.state == State::Claim {
             lent.levels[..used.n].copy_from_slice(&self.levels[..used.n]);
@@ -87,6 +91,7 @@ impl FullTables {
 #[derive(Clone, Copy, PartialEq, Eq, PartialOrd, Ord)]
 enum Place {
     Atoms,
+    Defined,
     Rules,
     Clauses,
     Loads,
@@ -100,10 +105,11 @@ impl Place {
         self >= reached && (self == Place::Atoms) == (reached == Place::Atoms)
     }
 
-    /// Atoms and state stand once, the others any number of times.
+    /// Atoms, declared atoms and state stand once, the others any number of times.
     fn after(self) -> Place {
         match self {
-            Place::Atoms => Place::Rules,
+            Place::Atoms => Place::Defined,
+            Place::Defined => Place::Rules,
             Place::State => Place::End,
             other => other,
         }
@@ -150,15 +156,25 @@ fn form(text: &[u8], at: usize, reached: Place, tables: &mut FullTables, used: &
         Some((Place::Loads, lines::load(text, at + 6, tables, used)?))
     } else if stands(text, at, b"(atoms ") {
         Some((Place::Atoms, lines::atoms(text, at + 7, used)?))
+    } else if stands(text, at, b"(defined ") {
+        Some((Place::Defined, lines::defined(text, at + 8, atom_limit(reached, used), tables)?))
     } else if stands(text, at, b"(open") {
         used.state = State::Open;
-        let limit = if reached == Place::Atoms { 1_024 } else { used.n };
-        Some((Place::State, lines::open(text, at + 5, limit, tables)?))
+        Some((Place::State, lines::open(text, at + 5, atom_limit(reached, used), tables)?))
     } else if stands(text, at, b"(claim") {
         used.state = State::Claim;
         Some((Place::State, lines::claim(text, at + 6, used.n, tables)?))
     } else {
         None
+    }
+}
+
+/// How many atoms may be named: N, or 1,024 before an atoms line.
+fn atom_limit(reached: Place, used: &Used) -> usize {
+    if reached == Place::Atoms {
+        1_024
+    } else {
+        used.n
     }
 }
 
@@ -168,7 +184,7 @@ fn fits(place: Place, used: &Used, lent: &Lengths) -> bool {
         Place::Rules => used.rules <= lent.rules && used.literals <= lent.literals,
         Place::Clauses => used.clauses <= lent.clauses && used.literals <= lent.literals,
         Place::Loads => used.loads <= lent.loads && used.terms <= lent.load_literals.min(lent.minutes),
-        Place::State => used.n <= lent.values && (used.state == State::Open || used.n <= lent.levels),
-        Place::Atoms | Place::End => true,
+        Place::State => used.n <= lent.marks.min(lent.values) && (used.state == State::Open || used.n <= lent.levels),
+        Place::Atoms | Place::Defined | Place::End => true,
     }
 }

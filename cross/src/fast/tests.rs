@@ -12,7 +12,8 @@ struct Lent {
     words: [Vec<u16>; 5],
     loads: Vec<i32>,
     minutes: Vec<i16>,
-    values: Vec<u8>,
+    /// Marks and values.
+    bytes: [Vec<u8>; 2],
     answer: Vec<u32>,
 }
 
@@ -24,15 +25,15 @@ impl Lent {
             words: [6_144, 16_384, 4_096, 4_096, 1_024].map(|most| vec![0xA5A5; length(most)]),
             loads: vec![-77; length(256)],
             minutes: vec![-99; length(4_096)],
-            values: vec![0xC3; length(1_024)],
+            bytes: [1_024, 1_024].map(|most| vec![0xC3; length(most)]),
             answer: vec![0xDDDD; if full || length(8) == 8 { 7 } else { 6 }],
         }
     }
 
     fn read(mut self, calls: &dyn Calls, text: &[u8]) -> (u32, Lent) {
         let [rules, literals, clauses, load_literals, levels] = &mut self.words;
-        let (loads, minutes, values) = (&mut self.loads, &mut self.minutes, &mut self.values);
-        let tables = TablesToFill { rules, literals, clauses, loads, load_literals, minutes, values, levels };
+        let (loads, minutes, [marks, values]) = (&mut self.loads, &mut self.minutes, &mut self.bytes);
+        let tables = TablesToFill { rules, literals, clauses, loads, load_literals, minutes, marks, values, levels };
         let verdict = calls.read(text, tables, &mut self.answer);
         (verdict, self)
     }
@@ -58,6 +59,11 @@ fn signed(random: &mut Random, most: usize) -> i64 {
 fn text(random: &mut Random) -> Vec<u8> {
     let n = random.below(7);
     let mut lines = vec![format!("(atoms {n})")];
+    if random.one_in(3) {
+        let atoms: String =
+            (0..n + 1).filter(|&atom| random.one_in(if atom < n { 3 } else { 20 })).map(|atom| format!(" {atom}")).collect();
+        lines.push(format!("(defined{atoms})"));
+    }
     for _ in 0..random.below(6) {
         lines.push(format!("(rule {}{})", random.below(6), several(random, literal)));
     }
@@ -122,6 +128,7 @@ fn texts_are_read_alike() {
 fn long_texts_are_read_alike() {
     let mut random = Random::new(2);
     let pairs = |count: usize| format!("(claim{})\n", " (0 0)".repeat(count));
+    let declared = |count: usize| format!("(defined{})\n", (0..count).map(|atom| format!(" {atom}")).collect::<String>());
     let rules = |count: usize| "(rule 0)\n".repeat(count);
     let clauses = |count: usize| "(clause)\n".repeat(count);
     let bodies = |count: usize| format!("(rule 0{})\n", " 1".repeat(count));
@@ -130,6 +137,7 @@ fn long_texts_are_read_alike() {
         let texts = [
             format!("(atoms 1024)\n{}", pairs(1_024 + extra)),
             format!("(atoms {})\n(open)\n", 1_024 + extra),
+            format!("(atoms 1024)\n{}(open)\n", declared(1_024 + extra)),
             format!("(atoms 2)\n{}(open)\n", rules(2_048 + extra)),
             format!("(atoms 2)\n{}(open)\n", clauses(2_048 + extra)),
             format!("(atoms 2)\n(clause)\n{}(open)\n", rules(2_048 + extra)),
@@ -166,7 +174,7 @@ fn part(length: usize, random: &mut Random) -> [usize; 2] {
 /// Tables of random content: mostly sound, since each entry is bad only rarely. Rows overlap at will.
 fn book(random: &mut Random) -> Book {
     let (n, literals, terms) = (random.below(9), random.below(12), random.below(6));
-    let mut book = Book { n, ..Book::default() };
+    let mut book = Book { marks: marks(n, random), ..Book::of_atoms(n) };
     for _ in 0..random.below(9) {
         let [start, count] = part(literals, random);
         book.rules.extend([mostly_below(n, random), start, count % 5].map(|entry| entry as u16));
@@ -186,6 +194,16 @@ fn book(random: &mut Random) -> Book {
     book
 }
 
+/// Mostly none; now and then some, and rarely one too many or one that is no mark.
+fn marks(n: usize, random: &mut Random) -> Vec<u8> {
+    let often = random.pick(&[0, 0, 1, 3]);
+    let mut marks: Vec<u8> = (0..n + usize::from(random.one_in(60))).map(|_| u8::from(random.below(4) < often)).collect();
+    if random.one_in(60) {
+        marks.iter_mut().rev().take(1).for_each(|mark| *mark = 2);
+    }
+    marks
+}
+
 fn load_row(terms: usize, random: &mut Random) -> [i32; 4] {
     let [start, count] = part(terms, random).map(|entry| entry as i32);
     let mut row = [-(random.below(300) as i32), random.below(300) as i32, start, count];
@@ -199,8 +217,9 @@ fn load_row(terms: usize, random: &mut Random) -> [i32; 4] {
 fn open_values(book: &Book, random: &mut Random) -> Vec<u8> {
     let length = book.n + usize::from(random.one_in(60));
     let mut open: Vec<u8> = (0..length).map(|_| mostly_below(2, random) as u8).collect();
-    for &head in book.rules.iter().step_by(3) {
-        if let Some(value) = open.get_mut(usize::from(head)) {
+    let heads = book.rules.iter().step_by(3).map(|&head| usize::from(head));
+    for atom in heads.chain((0..book.marks.len()).filter(|&atom| book.marks[atom] == 1)) {
+        if let Some(value) = open.get_mut(atom) {
             *value *= u8::from(random.one_in(40));
         }
     }
@@ -231,11 +250,11 @@ fn tables_are_judged_alike() {
         assert_eq!(checked, Library.check(book.tables(), &values, &levels), "{book:?} {values:?} {levels:?}");
         met.extend([number(answer as u32), number(checked)]);
     }
-    let all = [0].into_iter().chain(11..=17).chain(21..=27);
+    let all = [0].into_iter().chain(11..=17).chain(21..=27).chain([31]);
     assert_eq!(met, all.collect(), "not every number was met");
 }
 
-/// The limits of 11 and 17, which small tables do not reach.
+/// The limits of 11, 17 and 31, which small tables do not reach.
 #[test]
 fn sizes_are_judged_alike() {
     let full = Book {
@@ -246,8 +265,9 @@ fn sizes_are_judged_alike() {
         loads: vec![0; 256],
         load_literals: vec![0; 4_096],
         minutes: vec![0; 4_096],
+        marks: vec![1; 1_024],
     };
-    let changes: [fn(&mut Book); 8] = [
+    let changes: [fn(&mut Book); 11] = [
         |_| {},
         |book| book.n += 1,
         |book| book.rules.extend([0; 3]),
@@ -256,6 +276,9 @@ fn sizes_are_judged_alike() {
         |book| book.loads.extend([0; 4]),
         |book| book.minutes.push(0),
         |book| (book.minutes.push(0), book.load_literals.push(0)).0,
+        |book| book.marks.push(1),
+        |book| book.marks[1_023] = 255,
+        |book| book.marks.clear(),
     ];
     for change in changes {
         let mut book = full.clone();

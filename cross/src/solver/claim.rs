@@ -16,12 +16,11 @@ impl Solver {
         if let Some(verdict) = self.table_refusal(book, &[values.len(), levels.len()]) {
             return verdict;
         }
-        let decoded = Decoded::new(book);
+        let decoded = self.decoded(book);
         let claimed = Claimed { book: &decoded, values, levels };
         let refuse = |number| move |position| Verdict::refused(number, position);
-        let refusal = claimed
-            .bad_value()
-            .map(refuse(21))
+        let refusal = self
+            .mark_or_value_refusal(book, claimed.bad_value())
             .or_else(|| self.bad_level(&claimed).map(refuse(22)))
             .or_else(|| claimed.atom_without_rule().map(refuse(23)))
             .or_else(|| self.unblocked_rule(&claimed).map(refuse(24)))
@@ -30,8 +29,9 @@ impl Solver {
     }
 
     fn bad_level(&self, claimed: &Claimed) -> Option<usize> {
-        let extra = usize::from(self.has(Fault::LevelAboveDefinedCount));
-        let highest = claimed.book.defined_count() + extra;
+        let one_more = usize::from(self.has(Fault::LevelAboveDefinedCount));
+        let twice = if self.has(Fault::DeclaredHeadsCountedTwice) { claimed.book.declared_heads() } else { 0 };
+        let highest = claimed.book.defined_count() + one_more + twice;
         (0..claimed.book.atoms()).find(|atom| {
             let level = usize::from(claimed.levels[*atom]);
             if claimed.book.defined[*atom] {

@@ -39,6 +39,7 @@ pub struct LoadLine {
 /// A book on sound tables.
 #[derive(Clone, Debug)]
 pub struct Decoded {
+    pub declared: Vec<bool>,
     pub defined: Vec<bool>,
     pub rules: Vec<Rule>,
     pub clauses: Vec<Vec<Literal>>,
@@ -54,8 +55,9 @@ impl Decoded {
             .collect();
         let clauses = book.clauses.chunks(2).map(|row| distinct(part(&book.literals, row[0], row[1]), book.n)).collect();
         let load_lines = book.loads.chunks(4).map(|row| load_line(book, row)).collect();
-        let defined = (0..book.n).map(|atom| rules.iter().any(|rule| rule.head == atom)).collect();
-        Decoded { defined, rules, clauses, load_lines }
+        let declared: Vec<bool> = (0..book.n).map(|atom| book.marks.get(atom) == Some(&1)).collect();
+        let defined = (0..book.n).map(|atom| declared[atom] || heads_a_rule(atom, &rules)).collect();
+        Decoded { declared, defined, rules, clauses, load_lines }
     }
 
     pub fn atoms(&self) -> usize {
@@ -66,6 +68,15 @@ impl Decoded {
     pub fn defined_count(&self) -> usize {
         self.defined.iter().filter(|defined| **defined).count()
     }
+
+    /// How many atoms are defined in both ways.
+    pub fn declared_heads(&self) -> usize {
+        (0..self.atoms()).filter(|atom| self.declared[*atom] && heads_a_rule(*atom, &self.rules)).count()
+    }
+}
+
+fn heads_a_rule(atom: usize, rules: &[Rule]) -> bool {
+    rules.iter().any(|rule| rule.head == atom)
 }
 
 /// The part of a table that a row points at. An empty part may start anywhere: a deliberate fault lets such rows through.

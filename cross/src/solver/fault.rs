@@ -13,10 +13,16 @@ pub enum Fault {
     MutualSupport,
     TruncatedTenths,
     UndecidedPrintedLast,
+    MarksIgnored,
+    DeclaredHeadsCountedTwice,
+    ValuesBeforeMarks,
+    MarksOfOtherLengthAs17,
+    MarksBeyondTheAtomsCleared,
+    UnusedMarksNotAskedFor,
 }
 
 impl Fault {
-    pub const ALL: [Fault; 10] = [
+    pub const ALL: [Fault; 16] = [
         Fault::OrderBeforeLimits,
         Fault::FullTableRefused,
         Fault::EmptyRowPastTheEnd,
@@ -27,6 +33,12 @@ impl Fault {
         Fault::MutualSupport,
         Fault::TruncatedTenths,
         Fault::UndecidedPrintedLast,
+        Fault::MarksIgnored,
+        Fault::DeclaredHeadsCountedTwice,
+        Fault::ValuesBeforeMarks,
+        Fault::MarksOfOtherLengthAs17,
+        Fault::MarksBeyondTheAtomsCleared,
+        Fault::UnusedMarksNotAskedFor,
     ];
 
     pub fn describe(self) -> &'static str {
@@ -43,6 +55,12 @@ impl Fault {
             }
             Fault::TruncatedTenths => "Minutes are counted in tenths by division that truncates.",
             Fault::UndecidedPrintedLast => "Undecided atoms are printed after all others, not at level 0.",
+            Fault::MarksIgnored => "A declared atom without a rule is open.",
+            Fault::DeclaredHeadsCountedTwice => "D counts an atom twice that is declared and heads a rule.",
+            Fault::ValuesBeforeMarks => "31 is looked for after 21, not before it.",
+            Fault::MarksOfOtherLengthAs17 => "Marks that are not N are 17, like values and levels.",
+            Fault::MarksBeyondTheAtomsCleared => "The reader writes 0 to all lent marks beyond N too.",
+            Fault::UnusedMarksNotAskedFor => "A book without declared atoms reads well into fewer than N marks.",
         }
     }
 }

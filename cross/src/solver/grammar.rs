@@ -7,6 +7,7 @@
 #[derive(Clone, PartialEq, Eq, Debug)]
 pub enum Form {
     Atoms(i64),
+    Defined(Vec<i64>),
     Rule { head: i64, body: Vec<WrittenLiteral> },
     Clause(Vec<WrittenLiteral>),
     Load { least: i64, most: i64, terms: Vec<WrittenTerm> },
@@ -41,6 +42,7 @@ pub fn form(line: &[u8]) -> Option<Form> {
     cursor.byte(b'(')?;
     let form = match cursor.letters() {
         b"atoms" => Form::Atoms(cursor.after_space(Cursor::natural)?),
+        b"defined" => Form::Defined(cursor.list_of_some(Cursor::natural)?),
         b"rule" => Form::Rule { head: cursor.after_space(Cursor::natural)?, body: cursor.list(Cursor::literal)? },
         b"clause" => Form::Clause(cursor.list(Cursor::literal)?),
         b"load" => Form::Load {
@@ -136,6 +138,11 @@ impl<'a> Cursor<'a> {
         }
         Some(parts)
     }
+
+    /// At least one part.
+    fn list_of_some<T>(&mut self, part: impl Fn(&mut Self) -> Option<T>) -> Option<Vec<T>> {
+        self.list(part).filter(|parts| !parts.is_empty())
+    }
 }
 
 #[cfg(test)]
@@ -153,6 +160,8 @@ mod tests {
     #[test]
     fn every_form_is_read() {
         assert_eq!(form(b"(atoms 12)\n"), Some(Form::Atoms(12)));
+        assert_eq!(form(b"(defined 7)\n"), Some(Form::Defined(vec![7])));
+        assert_eq!(form(b"(defined 9 2 2)\n"), Some(Form::Defined(vec![9, 2, 2])));
         assert_eq!(form(b"(rule 3)\n"), Some(Form::Rule { head: 3, body: vec![] }));
         assert_eq!(form(b"(rule 3 0 (not 10))\n"), Some(Form::Rule { head: 3, body: vec![plain(0), negated(10)] }));
         assert_eq!(form(b"(clause)\n"), Some(Form::Clause(vec![])));
@@ -166,7 +175,7 @@ mod tests {
         assert_eq!(form(b"(claim (2 0))\n"), Some(Form::Claim(vec![WrittenPair { value: 2, level: 0 }])));
     }
 
-    const MALFORMED: [&[u8]; 42] = [
+    const MALFORMED: [&[u8]; 50] = [
         b"",
         b"\n",
         b"(\n",
@@ -209,6 +218,14 @@ mod tests {
         b"(open -1)\n",
         b"(open (not 1))\n",
         b"(claim (1 -1))\n",
+        b"(defined)\n",
+        b"(defined )\n",
+        b"(defined 1 )\n",
+        b"(defined  1)\n",
+        b"(defined -1)\n",
+        b"(defined 01)\n",
+        b"(defined (not 1))\n",
+        b"(define 1)\n",
     ];
 
     #[test]

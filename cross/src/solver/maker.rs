@@ -12,9 +12,9 @@ impl Solver {
         if let Some(verdict) = self.table_refusal(book, &[open_values.len(), values_len, levels_len, work_len]) {
             return nothing_written(verdict);
         }
-        let decoded = Decoded::new(book);
-        if let Some(atom) = bad_open_value(&decoded, open_values) {
-            return nothing_written(Verdict::refused(21, atom));
+        let decoded = self.decoded(book);
+        if let Some(verdict) = self.mark_or_value_refusal(book, bad_open_value(&decoded, open_values)) {
+            return nothing_written(verdict);
         }
         let stages = self.stages(&decoded, open_values);
         if self.fault.is_none() {
@@ -62,7 +62,7 @@ mod tests {
     #[test]
     #[should_panic(expected = "atom 0: the stages and the alternating fixed point differ")]
     fn wrong_stages_are_noticed() {
-        let book = Decoded::new(&Book { n: 2, rules: vec![0, 0, 1, 1, 1, 1], literals: vec![2, 0], ..Book::default() });
+        let book = Decoded::new(&Book { rules: vec![0, 0, 1, 1, 1, 1], literals: vec![2, 0], ..Book::of_atoms(2) });
         let faulty = Solver { fault: Some(Fault::MutualSupport) };
         confirm(&book, &[0, 0], &faulty.stages(&book, &[0, 0]));
     }

@@ -24,6 +24,9 @@ mod small_books;
 
 pub use fault::Fault;
 
+use crate::book::Book;
+use decoded::Decoded;
+
 /// The solver. Its calls stand with the rules they follow: `read` in `reading`, `check` in `claim`, `evaluate` in `maker`, and
 /// `verdict` and `report` in `page`.
 #[derive(Clone, Copy, Default)]
@@ -34,5 +37,12 @@ pub struct Solver {
 impl Solver {
     fn has(&self, fault: Fault) -> bool {
         self.fault == Some(fault)
+    }
+
+    fn decoded(&self, book: &Book) -> Decoded {
+        if self.has(Fault::MarksIgnored) {
+            return Decoded::new(&Book { marks: vec![0; book.n], ..book.clone() });
+        }
+        Decoded::new(book)
     }
 }

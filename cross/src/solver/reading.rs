@@ -5,11 +5,13 @@ use super::limits;
 use super::{Fault, Solver};
 use crate::book::{Lengths, Read, State, Verdict};
 
-/// How far the order of forms has come. Rules, clauses and load lines may repeat; atoms and state stand once.
+/// How far the order of forms has come. Rules, clauses and load lines may repeat; atoms and state stand once, and the declared
+/// atoms once or not at all.
 #[derive(Clone, Copy, PartialEq, Eq, PartialOrd, Ord)]
 enum Section {
     Start,
     Atoms,
+    Defined,
     Rules,
     Clauses,
     Loads,
@@ -24,6 +26,17 @@ struct Progress {
 
 impl Solver {
     pub fn read(&self, text: &[u8], lent: &Lengths) -> Read {
+        let mut read = self.used(text, lent);
+        match self.fault {
+            Some(Fault::MarksBeyondTheAtomsCleared) if read.verdict == Verdict::ACCEPTED => read.book.marks.resize(lent.marks, 0),
+            Some(Fault::UnusedMarksNotAskedFor) => read.book.marks.truncate(lent.marks),
+            _ => {}
+        }
+        read
+    }
+
+    /// The entries that a text yields, and no others.
+    pub(super) fn used(&self, text: &[u8], lent: &Lengths) -> Read {
         self.read_lines(text, lent).unwrap_or_else(|verdict| Read { verdict, ..Read::default() })
     }
 
@@ -51,7 +64,7 @@ impl Solver {
     fn line_refusal(&self, progress: &Progress, form: &Form, lent: &Lengths) -> Option<u32> {
         let mut refusals = [
             (progress.outside_limits(form), 2),
-            (progress.out_of_order(form) || progress.miscounted_state(form), 3),
+            (progress.out_of_order(form) || progress.parts_out_of_order(form), 3),
             (self.beyond_lent(progress, form, lent), 4),
         ];
         if self.has(Fault::OrderBeforeLimits) {
@@ -62,7 +75,7 @@ impl Solver {
 
     fn beyond_lent(&self, progress: &Progress, form: &Form, lent: &Lengths) -> bool {
         let after = progress.counts_with(form);
-        let n = progress.read.book.n;
+        let (n, marks) = (progress.read.book.n, self.marks_needed(progress));
         let mut needs = vec![
             (3 * after.rules, lent.rules),
             (after.literals, lent.literals),
@@ -72,12 +85,21 @@ impl Solver {
             (after.terms, lent.minutes),
         ];
         match form {
-            Form::Open(_) => needs.push((n, lent.values)),
-            Form::Claim(_) => needs.extend([(n, lent.values), (n, lent.levels)]),
+            Form::Open(_) => needs.extend([(marks, lent.marks), (n, lent.values)]),
+            Form::Claim(_) => needs.extend([(marks, lent.marks), (n, lent.values), (n, lent.levels)]),
             _ => {}
         }
         let full_is_short = self.has(Fault::FullTableRefused);
         needs.iter().any(|(needed, length)| needed > length || (full_is_short && needed == length && *needed > 0))
+    }
+
+    /// All N, whether an atom is declared or not.
+    fn marks_needed(&self, progress: &Progress) -> usize {
+        let book = &progress.read.book;
+        if self.has(Fault::UnusedMarksNotAskedFor) && !book.marks.contains(&1) {
+            return 0;
+        }
+        book.n
     }
 }
 
@@ -114,7 +136,7 @@ impl Progress {
                 counts.loads += 1;
                 counts.terms += terms.len();
             }
-            Form::Atoms(_) | Form::Open(_) | Form::Claim(_) => {}
+            Form::Atoms(_) | Form::Defined(_) | Form::Open(_) | Form::Claim(_) => {}
         }
         counts
     }
@@ -140,8 +162,8 @@ impl Progress {
                 let term_outside = terms.iter().any(|term| !limits::MINUTES.contains(&term.minutes) || beyond(term.literal.atom));
                 outside(least) || outside(most) || term_outside
             }
-            Form::Open(atoms) if self.section == Section::Start => atoms.iter().any(|atom| beyond(*atom)),
-            Form::Open(atoms) => atoms.iter().any(|atom| *atom >= self.read.book.n as i64),
+            Form::Defined(atoms) | Form::Open(atoms) if self.section == Section::Start => atoms.iter().any(|atom| beyond(*atom)),
+            Form::Defined(atoms) | Form::Open(atoms) => atoms.iter().any(|atom| *atom >= self.read.book.n as i64),
             Form::Claim(pairs) => {
                 pairs.len() > limits::CLAIM_PAIRS || pairs.iter().any(|pair| pair.value > 255 || pair.level > 65_535)
             }
@@ -152,14 +174,15 @@ impl Progress {
         let section = section_of(form);
         match section {
             Section::Atoms => self.section != Section::Start,
+            Section::Defined => self.section != Section::Atoms,
             Section::State => self.section == Section::Start || self.section == Section::State,
             _ => self.section == Section::Start || self.section > section,
         }
     }
 
-    fn miscounted_state(&self, form: &Form) -> bool {
+    fn parts_out_of_order(&self, form: &Form) -> bool {
         match form {
-            Form::Open(atoms) => !atoms.windows(2).all(|pair| pair[0] < pair[1]),
+            Form::Defined(atoms) | Form::Open(atoms) => !atoms.windows(2).all(|pair| pair[0] < pair[1]),
             Form::Claim(pairs) => pairs.len() != self.read.book.n,
             _ => false,
         }
@@ -170,7 +193,11 @@ impl Progress {
         self.section = section_of(form);
         let book = &mut self.read.book;
         match form {
-            Form::Atoms(n) => book.n = entry(*n),
+            Form::Atoms(n) => {
+                book.n = entry(*n);
+                book.marks = vec![0; book.n];
+            }
+            Form::Defined(atoms) => atoms.iter().for_each(|atom| book.marks[entry::<usize>(*atom)] = 1),
             Form::Rule { head, body } => {
                 book.rules.extend([entry::<u16>(*head), count(book.literals.len()), count(body.len())]);
                 book.literals.extend(body.iter().map(stored));
@@ -200,6 +227,7 @@ impl Progress {
 fn section_of(form: &Form) -> Section {
     match form {
         Form::Atoms(_) => Section::Atoms,
+        Form::Defined(_) => Section::Defined,
         Form::Rule { .. } => Section::Rules,
         Form::Clause(_) => Section::Clauses,
         Form::Load { .. } => Section::Loads,

@@ -102,14 +102,45 @@ fn book_a_is_laid_down_row_after_row() {
         loads: vec![0, 10, 0, 1],
         load_literals: vec![6],
         minutes: vec![60],
+        marks: vec![0; 4],
     };
     assert_eq!(read, Read { verdict: Verdict::ACCEPTED, book, state: State::Open, values: vec![1, 0, 0, 0], levels: vec![] });
     let claim = SOLVER.read(b"(atoms 2)\n(claim (255 65535) (0 7))\n", &Lengths::FULL);
     assert_eq!((claim.state, claim.values, claim.levels), (State::Claim, vec![255, 0], vec![65_535, 7]));
 }
 
+#[test]
+fn declared_atoms_are_marked() {
+    let marks = |text: &str| SOLVER.read(text.as_bytes(), &Lengths::FULL).book.marks;
+    assert_eq!(marks("(atoms 3)\n(defined 0 2)\n(open)\n"), [1, 0, 1]);
+    assert_eq!(marks("(atoms 3)\n(defined 1)\n(rule 1)\n(claim (0 0) (1 1) (0 0))\n"), [0, 1, 0]);
+    assert_eq!(marks("(atoms 3)\n(open)\n"), [0, 0, 0]);
+    assert!(marks("(atoms 3)\n(defined 0 2)\n").is_empty());
+}
+
+/// An atom that is declared and heads no rule: setting it is 21, claiming it true is 23, and stage 1 makes it false.
+#[test]
+fn a_withdrawn_rule_leaves_its_atom_false() {
+    let withdrawn = "(atoms 2)\n(defined 0)\n(rule 1 (not 0))\n";
+    assert_eq!(report_on(withdrawn, "(open)"), "(made 2)\n(atom 0 0 1)\n(atom 1 1 2)\n(accepted)\n");
+    assert_eq!(report_on(withdrawn, "(open 0)"), "(refused 21 0)\n");
+    assert_eq!(report_on(withdrawn, "(claim (0 1) (1 2))"), "(accepted)\n");
+    assert_eq!(report_on(withdrawn, "(claim (0 2) (1 1))"), "(refused 23 1)\n");
+    assert_eq!(report_on(withdrawn, "(claim (1 1) (0 1))"), "(refused 23 0)\n");
+    assert_eq!(report_on(withdrawn, "(claim (0 0) (1 1))"), "(refused 22 0)\n");
+    assert_eq!(report_on(withdrawn, "(claim (0 3) (1 2))"), "(refused 22 0)\n");
+}
+
+#[test]
+fn a_declared_atom_with_rules_counts_once() {
+    let both = "(atoms 2)\n(defined 0 1)\n(rule 0)\n";
+    assert_eq!(report_on(both, "(open)"), "(made 1)\n(atom 0 1 1)\n(atom 1 0 1)\n(accepted)\n");
+    assert_eq!(report_on(both, "(claim (1 2) (0 2))"), "(accepted)\n");
+    assert_eq!(report_on(both, "(claim (1 3) (0 1))"), "(refused 22 0)\n");
+}
+
 /// Refusals 1 to 3: the first bad line wins, its lowest number next.
-const LINES: [(&str, (u32, u32)); 34] = [
+const LINES: [(&str, (u32, u32)); 50] = [
     ("(atoms 1)", (1, 0)),
     ("(atoms 1)\n(open)", (1, 10)),
     ("(atoms 1)\n\n(open)\n", (1, 10)),
@@ -144,6 +175,22 @@ const LINES: [(&str, (u32, u32)); 34] = [
     ("(atoms 1)\n(load -1000001 0)\n(open)\n", (2, 10)),
     ("(atoms 1)\n(load 0 1000001)\n(open)\n", (2, 10)),
     ("(atoms 1)\n(load 0 0 (-1441 0))\n(open)\n", (2, 10)),
+    ("(atoms 3)\n(defined)\n(open)\n", (1, 10)),
+    ("(atoms 3)\n(defined 3 x)\n(open)\n", (1, 10)),
+    ("(atoms 3)\n(defined 3)\n(open)\n", (2, 10)),
+    ("(atoms 0)\n(defined 0)\n(open)\n", (2, 10)),
+    ("(defined 1023)\n", (3, 0)),
+    ("(defined 1024)\n", (2, 0)),
+    ("(atoms 3)\n(defined 1 1)\n(open)\n", (3, 10)),
+    ("(atoms 3)\n(defined 2 1)\n(open)\n", (3, 10)),
+    ("(atoms 3)\n(defined 3 1)\n(open)\n", (2, 10)),
+    ("(atoms 3)\n(defined 1)\n(defined 2)\n(open)\n", (3, 22)),
+    ("(atoms 3)\n(defined 1)\n(defined 3)\n(open)\n", (2, 22)),
+    ("(atoms 3)\n(rule 0)\n(defined 1)\n(open)\n", (3, 19)),
+    ("(atoms 3)\n(clause 0)\n(defined 1)\n(open)\n", (3, 21)),
+    ("(atoms 3)\n(load 0 0)\n(defined 1)\n(open)\n", (3, 21)),
+    ("(atoms 3)\n(open)\n(defined 1)\n", (3, 17)),
+    ("(atoms 3)\n(defined 0 1 2)\n(atoms 3)\n", (3, 26)),
 ];
 
 #[test]
@@ -198,7 +245,8 @@ fn the_longest_text() {
 /// Refusal 4: one entry less than a line needs, in each table in turn.
 #[test]
 fn lent_tables_too_short() {
-    let exact = Lengths { rules: 12, literals: 6, clauses: 2, loads: 4, load_literals: 1, minutes: 1, values: 4, levels: 4 };
+    let exact =
+        Lengths { rules: 12, literals: 6, clauses: 2, loads: 4, load_literals: 1, minutes: 1, marks: 4, values: 4, levels: 4 };
     let claim = format!("{A}(claim (0 0) (0 1) (0 1) (1 2))\n");
     let open = format!("{A}(open)\n");
     let offset = |part: &str| claim.find(part).expect("part of the text") as u32;
@@ -211,6 +259,7 @@ fn lent_tables_too_short() {
         (Lengths { loads: 3, ..exact }, offset("(load")),
         (Lengths { load_literals: 0, ..exact }, offset("(load")),
         (Lengths { minutes: 0, ..exact }, offset("(load")),
+        (Lengths { marks: 3, ..exact }, offset("(claim")),
         (Lengths { values: 3, ..exact }, offset("(claim")),
         (Lengths { levels: 3, ..exact }, offset("(claim")),
     ];
@@ -221,13 +270,25 @@ fn lent_tables_too_short() {
     }
     assert_eq!(answer(&open, Lengths { levels: 0, ..exact }).verdict, Verdict::ACCEPTED);
     assert_eq!(answer(&open, Lengths { values: 3, ..exact }).verdict, Verdict { number: 4, position: offset("(claim") });
+    assert_eq!(answer(&open, Lengths { marks: 3, ..exact }).verdict, Verdict { number: 4, position: offset("(claim") });
 }
 
-/// Refusals 11 to 17, each on book A with one change.
+/// A change of book A, with the refusal that it brings about.
+type Change = (fn(&mut Book), u32, u32);
+
+fn refused_after(changes: &[Change]) {
+    for &(change, number, position) in changes {
+        let mut book = book_a();
+        change(&mut book);
+        let refused = Verdict { number, position };
+        assert_eq!(SOLVER.check(&book, &[0, 0, 0, 1], &[0, 1, 1, 2]), refused, "{book:?}");
+        assert_eq!(SOLVER.evaluate(&book, &[0; 4], 4, 4, 4), Made { verdict: refused, rounds: 0, written: None }, "{book:?}");
+    }
+}
+
 #[test]
 fn tables_at_fault() {
-    type Change = fn(&mut Book);
-    let changes: [(Change, u32, u32); 28] = [
+    refused_after(&[
         (|book| book.n = 1_025, 11, 0),
         (|book| book.n = usize::MAX, 11, 0),
         (|book| book.rules = vec![0; 3 * 2_049], 11, 0),
@@ -256,14 +317,20 @@ fn tables_at_fault() {
         (|book| (book.load_literals, book.minutes) = (vec![0, 0], vec![0, 1_441]), 16, 1),
         (|book| book.minutes[0] = -1_441, 16, 0),
         (|book| book.minutes[0] = i16::MIN, 16, 0),
-    ];
-    for (change, number, position) in changes {
-        let mut book = book_a();
-        change(&mut book);
-        let refused = Verdict { number, position };
-        assert_eq!(SOLVER.check(&book, &[0, 0, 0, 1], &[0, 1, 1, 2]), refused, "{book:?}");
-        assert_eq!(SOLVER.evaluate(&book, &[0; 4], 4, 4, 4), Made { verdict: refused, rounds: 0, written: None }, "{book:?}");
-    }
+    ]);
+}
+
+#[test]
+fn marks_at_fault() {
+    refused_after(&[
+        (|book| book.marks[0] = 2, 31, 0),
+        (|book| book.marks[3] = 255, 31, 3),
+        (|book| book.marks = vec![1, 1, 2, 255], 31, 2),
+        (|book| book.marks = vec![], 31, 0),
+        (|book| book.marks = vec![0, 0, 2], 31, 0),
+        (|book| book.marks = vec![0, 0, 0, 2, 0], 31, 0),
+        (|book| (book.minutes[0], book.marks[0]) = (1_441, 2), 16, 0),
+    ]);
 }
 
 #[test]
@@ -325,10 +392,24 @@ fn undecided_atoms_are_printed_at_level_0() {
     assert_eq!(page, "(made 2)\n(atom 1 2 0)\n(atom 3 1 0)\n(atom 0 1 1)\n(atom 2 0 2)\n(refused 25 1)\n");
 }
 
-/// Each deliberate fault shows in a call that is right without it.
+/// 17 comes before 31, and 31 before 21.
 #[test]
-fn every_fault_is_visible() {
-    let text_of = |fault: Fault| match fault {
+fn marks_are_looked_at_between_lengths_and_values() {
+    let check = |marks: &[u8], values: &[u8]| {
+        let book = Book { marks: marks.into(), ..Book::of_atoms(2) };
+        SOLVER.check(&book, values, &[0, 0])
+    };
+    assert_eq!(check(&[2, 0], &[0, 0, 0]), Verdict { number: 17, position: 0 });
+    assert_eq!(check(&[0], &[0, 0, 0]), Verdict { number: 17, position: 0 });
+    assert_eq!(check(&[0, 2], &[2, 0]), Verdict { number: 31, position: 1 });
+    assert_eq!(check(&[0], &[0, 2]), Verdict { number: 31, position: 0 });
+    assert_eq!(check(&[0, 1], &[0, 2]), Verdict { number: 21, position: 1 });
+}
+
+/// What a solver says in a call that this fault spoils.
+fn spoilt_by(fault: Fault, solver: &Solver) -> String {
+    let open = b"(atoms 1)\n(open)\n";
+    let text = match fault {
         Fault::OrderBeforeLimits => "(open 1024)\n",
         Fault::FullTableRefused => "(atoms 1024)\n(open)\n",
         Fault::LevelAboveDefinedCount => "(atoms 1)\n(rule 0)\n(claim (1 2))\n",
@@ -338,17 +419,27 @@ fn every_fault_is_visible() {
         Fault::MutualSupport => "(atoms 2)\n(rule 0 1)\n(rule 1 0)\n(open)\n",
         Fault::TruncatedTenths => "(atoms 1)\n(load 1 1 (3 0))\n(open 0)\n",
         Fault::UndecidedPrintedLast => "(atoms 2)\n(rule 0 (not 0))\n(open)\n",
-        Fault::EmptyRowPastTheEnd => "",
+        Fault::MarksIgnored => "(atoms 1)\n(defined 0)\n(open)\n",
+        Fault::DeclaredHeadsCountedTwice => "(atoms 1)\n(defined 0)\n(rule 0)\n(claim (1 2))\n",
+        Fault::EmptyRowPastTheEnd => return checked(solver, Book { rules: vec![0, 1, 0], ..Book::of_atoms(1) }, [1]),
+        Fault::ValuesBeforeMarks => return checked(solver, Book { marks: vec![2], ..Book::of_atoms(1) }, [2]),
+        Fault::MarksOfOtherLengthAs17 => return checked(solver, Book { marks: vec![], ..Book::of_atoms(1) }, [0]),
+        Fault::MarksBeyondTheAtomsCleared => return format!("{:?}", solver.read(open, &Lengths::FULL)),
+        Fault::UnusedMarksNotAskedFor => return format!("{:?}", solver.read(open, &Lengths { marks: 0, ..Lengths::FULL })),
     };
+    solver.report(text.as_bytes()).escape_ascii().to_string()
+}
+
+/// The check of a value at level 1.
+fn checked(solver: &Solver, book: Book, values: [u8; 1]) -> String {
+    format!("{:?}", solver.check(&book, &values, &[1]))
+}
+
+/// Each deliberate fault shows in a call that is right without it.
+#[test]
+fn every_fault_is_visible() {
     for fault in Fault::ALL {
         let faulty = Solver { fault: Some(fault) };
-        let differs = if fault == Fault::EmptyRowPastTheEnd {
-            let book = Book { n: 1, rules: vec![0, 1, 0], ..Book::default() };
-            faulty.check(&book, &[1], &[1]) != SOLVER.check(&book, &[1], &[1])
-        } else {
-            let text = text_of(fault).as_bytes();
-            faulty.report(text) != SOLVER.report(text)
-        };
-        assert!(differs, "{}", fault.describe());
+        assert_ne!(spoilt_by(fault, &faulty), spoilt_by(fault, &SOLVER), "{}", fault.describe());
     }
 }

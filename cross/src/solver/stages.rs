@@ -146,7 +146,7 @@ mod tests {
     #[test]
     fn a_chain_of_negations_takes_a_stage_an_atom() {
         let n = 1_024_u16;
-        let mut book = crate::book::Book { n: n.into(), ..Default::default() };
+        let mut book = crate::book::Book::of_atoms(n.into());
         for atom in 1..n {
             book.rules.extend([atom, atom - 1, 1]);
             book.literals.push(2 * (atom - 1) + 1);

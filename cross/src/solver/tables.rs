@@ -1,6 +1,6 @@
-//! Refusals 11 to 17: what a host can get wrong in the tables and slices that it lends.
+//! Refusals 11 to 17 and 31: what a host can get wrong in the tables and slices that it lends.
 //!
-//! Each refusal is one function that answers its lowest position, and they are asked in the order of their numbers.
+//! Each refusal is one function that answers its lowest position. 11 to 17 are asked in the order of their numbers, 31 after them.
 
 use super::limits;
 use super::{Fault, Solver};
@@ -20,6 +20,20 @@ impl Solver {
             .or_else(|| bad_literal(book).map(refuse(15)))
             .or_else(|| bad_term(book).map(refuse(16)))
             .or_else(|| other_lengths.iter().any(|length| *length != book.n).then(|| Verdict::refused(17, 0)))
+    }
+
+    /// 31 if a mark is bad, else 21 at the bad value, if there is one.
+    pub(super) fn mark_or_value_refusal(&self, book: &Book, bad_value: Option<usize>) -> Option<Verdict> {
+        let marks = bad_mark(book).map(|atom| {
+            let as_length = self.has(Fault::MarksOfOtherLengthAs17) && book.marks.len() != book.n;
+            Verdict::refused(if as_length { 17 } else { 31 }, atom)
+        });
+        let values = bad_value.map(|atom| Verdict::refused(21, atom));
+        if self.has(Fault::ValuesBeforeMarks) {
+            values.or(marks)
+        } else {
+            marks.or(values)
+        }
     }
 
     fn bad_rule_row(&self, book: &Book) -> Option<usize> {
@@ -74,4 +88,12 @@ fn bad_term(book: &Book) -> Option<usize> {
         let minutes_outside = !limits::MINUTES.contains(&i64::from(*minutes));
         usize::from(*literal) >= 2 * book.n || minutes_outside
     })
+}
+
+/// The lowest atom with a bad mark; 0 where there are not as many marks as atoms.
+fn bad_mark(book: &Book) -> Option<usize> {
+    if book.marks.len() != book.n {
+        return Some(0);
+    }
+    book.marks.iter().position(|mark| *mark != 0 && *mark != 1)
 }

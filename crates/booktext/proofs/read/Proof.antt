@@ -10,10 +10,10 @@ use Rattle.booktext.proofs.read.Tie as tie
 
 -- The walk was made, and before it the text was judged well.
 abbrev walked : tie.After-answer-of → tie.After-walk
-walked c = c .before .before .before .before .before .before .before .before .before .before .before .before .before .before .before
+walked c = c .before .before .before .before .before .before .before .before .before .before .before .before .before .before .before .before .before
 
 abbrev passed : tie.After-walk → tie.After-enum-told
-passed c = c .before .before .before .before .before .before .before .before .before
+passed c = c .before .before .before .before .before .before .before .before .before .before
 
 judge-requires : tie.Need-judge-requires
 judge-requires c κs = tt
@@ -61,6 +61,9 @@ same-length-7 c = walked c .walk .kept .1 .1 .1 .1 .1 .1 .1 .1 .0
 same-length-8 : tie.Need-same-length-8
 same-length-8 c = walked c .walk .kept .1 .1 .1 .1 .1 .1 .1 .1 .1 .0
 
+same-length-9 : tie.Need-same-length-9
+same-length-9 c = walked c .walk .kept .1 .1 .1 .1 .1 .1 .1 .1 .1 .1 .0
+
 returns-2 : tie.Need-returns-2
 unfolding spaceOf spaceWith lentTables
 returns-2 c =
@@ -86,4 +89,5 @@ read-spec =
     same-length-6
     same-length-7
     same-length-8
+    same-length-9
     returns-2)

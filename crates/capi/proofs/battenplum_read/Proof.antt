@@ -8,13 +8,13 @@ use Rattle.capi.proofs.battenplum_read.Tie as tie
 
 -- The text was read, and before it there were seven places.
 abbrev was-read : tie.After-put-counts-arg → tie.After-read
-was-read c = c .before .before .before .before .before .before .before .before .before .before .before .before .before .before .before
+was-read c = c .before .before .before .before .before .before .before .before .before .before .before .before .before .before .before .before .before
 
 abbrev began : tie.After-read → tie.Start
-began c = c .before .before .before .before .before .before .before .before .before .before .before .before .before .before .before .before .before .before
+began c = c .before .before .before .before .before .before .before .before .before .before .before .before .before .before .before .before .before .before .before .before
 
 seven : (c : tie.After-read) → length (began c .args .answer .now) ≡ 7
-seven c = c .before .before .before .before .before .before .before .before .before .if1 .left
+seven c = c .before .before .before .before .before .before .before .before .before .before .if1 .left
 
 returns : tie.Need-returns
 returns c = read-unanswered (c .if1 .taken)
@@ -53,7 +53,10 @@ same-length-8 : tie.Need-same-length-8
 same-length-8 c = was-read (c .before .before .before .before) .read .kept .1 .1 .1 .1 .1 .1 .1 .1 .0
 
 same-length-9 : tie.Need-same-length-9
-same-length-9 c = c .before .before .before .put-counts .kept .0
+same-length-9 c = was-read (c .before .before .before .before) .read .kept .1 .1 .1 .1 .1 .1 .1 .1 .1 .0
+
+same-length-10 : tie.Need-same-length-10
+same-length-10 c = c .before .before .before .put-counts .kept .0
 
 returns-2 : tie.Need-returns-2
 returns-2 c = read-answers (seven (was-read (c .before .before .before .before))) (was-read (c .before .before .before .before) .read .ensures) (c .pack .ensures) (c .before .before .before .put-counts .ensures)
@@ -75,4 +78,5 @@ battenplum-read-spec =
     same-length-7
     same-length-8
     same-length-9
+    same-length-10
     returns-2)

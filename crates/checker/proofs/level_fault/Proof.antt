@@ -1,4 +1,4 @@
--- `checker::level_fault` meets its contract: the marks of the heads tell who is defined, and a search that finds nothing leaves
+-- `checker::level_fault` meets its contract: the marks tell who is defined, and a search that finds nothing leaves
 -- the verdict to the tests after it.
 -- Assumes nothing.
 use mathlib.Core.Path.{_≡_, refl, sym, _∙_}
@@ -14,35 +14,37 @@ use Rattle.checker.specs.Check.{badLevel, levelTest, supportTest, blocki
 use Rattle.checker.specs.internal.Scans.{Ranged}
 use Rattle.checker.proofs.LevelReads.{levels-search, levels-ranged}
 use Rattle.checker.proofs.Supported.{heads-levelled}
-use Rattle.checker.proofs.MarkedHeads.{heads-readable, heads-count}
+use Rattle.checker.proofs.DefinedMarks.{defined-readable, defined-count}
 use Rattle.checker.proofs.level_fault.Statement.{statement}
 use Rattle.checker.proofs.level_fault.Tie as tie
 
 level-is :
     (c : tie.After-bad-level) →
-    let a = c .before .before .before .before .before .before .before .before .before .before .before .args in
-    let d = definitionOf (length (a .values .now)) (a .rules .now) (a .literals .now) in
+    let a = c .before .before .before .before .before .before .before .before .before .before .before .before .args in
+    let d = definitionOf (length (a .values .now)) (a .rules .now) (a .literals .now) (a .marks .now) in
     c .bad-level .result ≡ lowest (d .size) (badLevel d (a .levels .now))
 level-is c =
-    let start = c .before .before .before .before .before .before .before .before .before .before .before in
+    let start = c .before .before .before .before .before .before .before .before .before .before .before .before in
     let a = start .args in
-    let readable = heads-readable (a .rules .now) (a .literals .now) (a .values .now) (a .levels .now) _ (start .pre .few) (c .before .before .before .before .before .mark-heads .ensures) (start .pre .long) in
-    c .bad-level .ensures ∙ levels-search readable (heads-count readable ∙ sym (c .before .before .count-marked .ensures))
+    let readable = defined-readable (a .rules .now) (a .literals .now) (a .marks .now) (a .values .now) (a .levels .now) _ (start .pre .0 .few) (start .pre .1) (c .before .before .before .before .before .mark-defined .ensures) (start .pre .0 .long) in
+    c .bad-level .ensures ∙ levels-search readable (defined-count readable ∙ sym (c .before .before .count-marked .ensures))
 
 levels-fit :
     (c : tie.After-enum-told) →
-    let a = c .before .before .before .before .before .before .before .before .before .before .before .before .before .args in
-    let d = definitionOf (length (a .values .now)) (a .rules .now) (a .literals .now) in
+    let a = c .before .before .before .before .before .before .before .before .before .before .before .before .before .before .args in
+    let d = definitionOf (length (a .values .now)) (a .rules .now) (a .literals .now) (a .marks .now) in
     firstFault (levelTests d (a .rules .now) (a .literals .now) (a .values .now) (a .levels .now))
     ≡ firstFault (supportTest d (a .values .now) (a .levels .now) ∷ blockingTest d (a .rules .now) (a .literals .now) (a .values .now) (a .levels .now) ∷ [])
 unfolding levelTests levelTest
 levels-fit c = nothing-leaves _ _ _ _ refl (level-is (c .before .before)) (c .enum-told .given .1)
 
-slice-aggregate-mark-heads : tie.Need-slice-aggregate-mark-heads
-slice-aggregate-mark-heads c = search needs
+slice-aggregate-mark-defined : tie.Need-slice-aggregate-mark-defined
+slice-aggregate-mark-defined c = search needs
 
-mark-heads-requires : tie.Need-mark-heads-requires
-mark-heads-requires c κs = λ row l. omega (arith, c .before .before .before .before .before .pre .rows .heads row l)
+mark-defined-requires : tie.Need-mark-defined-requires
+mark-defined-requires c κs =
+    let pre = c .before .before .before .before .before .before .pre in
+    (λ row l. omega (arith, pre .0 .few, pre .0 .rows .heads row l), omega (arith, pre .0 .few, pre .1))
 
 slice-aggregate-count-marked : tie.Need-slice-aggregate-count-marked
 slice-aggregate-count-marked c = search needs
@@ -72,33 +74,33 @@ slice-aggregate-rule-fault c = search needs
 -- Where no level has a fault, all are in range.
 ranged :
     (c : tie.After-enum-told) →
-    let a = c .before .before .before .before .before .before .before .before .before .before .before .before .before .args in
-    Ranged (definitionOf (length (a .values .now)) (a .rules .now) (a .literals .now)) (a .values .now) (a .levels .now)
+    let a = c .before .before .before .before .before .before .before .before .before .before .before .before .before .before .args in
+    Ranged (definitionOf (length (a .values .now)) (a .rules .now) (a .literals .now) (a .marks .now)) (a .values .now) (a .levels .now)
 ranged c =
-    let start = c .before .before .before .before .before .before .before .before .before .before .before .before .before in
+    let start = c .before .before .before .before .before .before .before .before .before .before .before .before .before .before in
     let a = start .args in
     levels-ranged
-    (heads-readable (a .rules .now) (a .literals .now) (a .values .now) (a .levels .now) _ (start .pre .few) (c .before .before .before .before .before .before .before .mark-heads .ensures) (start .pre .long))
+    (defined-readable (a .rules .now) (a .literals .now) (a .marks .now) (a .values .now) (a .levels .now) _ (start .pre .0 .few) (start .pre .1) (c .before .before .before .before .before .before .before .mark-defined .ensures) (start .pre .0 .long))
     (sym (level-is (c .before .before)) ∙ c .enum-told .given .1)
 
 rule-fault-requires : tie.Need-rule-fault-requires
 rule-fault-requires c κs =
-    let pre = c .before .before .before .before .before .before .before .before .before .before .before .before .before .before .pre in
-    (heads-levelled (definition-rows _ _ _) (pre .few) (pre .rows) (ranged (c .before)), omega arith)
+    let pre = c .before .before .before .before .before .before .before .before .before .before .before .before .before .before .before .pre in
+    (heads-levelled (definition-rows _ _ _ _) (pre .0 .few) (pre .0 .rows) (ranged (c .before)), omega arith)
 
 returns-2 : tie.Need-returns-2
 returns-2 c =
-    let start = c .before .before .before .before .before .before .before .before .before .before .before .before .before .before .before in
+    let start = c .before .before .before .before .before .before .before .before .before .before .before .before .before .before .before .before in
     let a = start .args in
-    let readable = heads-readable (a .rules .now) (a .literals .now) (a .values .now) (a .levels .now) _ (start .pre .few) (c .before .before .before .before .before .before .before .before .before .mark-heads .ensures) (start .pre .long) in
-    c .rule-fault .ensures _ (definition-rows _ _ _) readable (ranged (c .before .before)) ∙ sym (levels-fit (c .before .before))
+    let readable = defined-readable (a .rules .now) (a .literals .now) (a .marks .now) (a .values .now) (a .levels .now) _ (start .pre .0 .few) (start .pre .1) (c .before .before .before .before .before .before .before .before .before .mark-defined .ensures) (start .pre .0 .long) in
+    c .rule-fault .ensures _ (definition-rows _ _ _ _) readable (ranged (c .before .before)) ∙ sym (levels-fit (c .before .before))
 
 pub level-fault-spec : {M : Type 1} → statement M
 level-fault-spec =
     tie.close
     (tie.spec
-    slice-aggregate-mark-heads
-    mark-heads-requires
+    slice-aggregate-mark-defined
+    mark-defined-requires
     slice-aggregate-count-marked
     count-marked-requires
     slice-aggregate-bad-level

@@ -1,4 +1,4 @@
--- `forms::read_atoms_form` meets its contract: the space, the number and the bracket, one after the other.
+-- `forms::read_atoms_form` meets its contract: the space, the number and the bracket, one after the other, and then the marks.
 -- Assumes nothing.
 use Prim.Native.Nat.{_+_}
 use mathlib.Core.Path.{_≡_, sym, _∙_}
@@ -18,9 +18,9 @@ byte-at-requires : tie.Need-byte-at-requires
 byte-at-requires c κs = search needs
 
 returns : tie.Need-returns
-returns c = atoms-unspaced _ _ _ (sym (c .before .byte-at .ensures) ∙ not-true _ (c .if1 .taken))
+returns c = atoms-unspaced _ _ (sym (c .before .byte-at .ensures) ∙ not-true _ (c .if1 .taken))
 
-spaced : (c : tie.Else1) → let a = c .before .before .before .args in wordAt (a .text .now) (a .at) (32 ∷ []) ≡ true
+spaced : (c : tie.Else1) → let a = c .before .before .before .before .args in wordAt (a .text .now) (a .at) (32 ∷ []) ≡ true
 spaced c = sym (c .before .byte-at .ensures) ∙ not-false _ (c .if1 .left)
 
 add-read-number : tie.Need-add-read-number
@@ -36,11 +36,11 @@ enum-told : tie.Need-enum-told
 enum-told c = search needs
 
 returns-2 : tie.Need-returns-2
-returns-2 c = atoms-sizeless _ _ _ (spaced (c .before .before .before)) (sym (c .before .before .read-number .ensures) ∙ c .enum-told .given .1)
+returns-2 c = atoms-sizeless _ _ (spaced (c .before .before .before)) (sym (c .before .before .read-number .ensures) ∙ c .enum-told .given .1)
 
 sized :
     (c : tie.After-size) →
-    let a = c .before .before .before .before .before .before .args in
+    let a = c .before .before .before .before .before .before .before .args in
     let v = c .size .given .0 in
     numberAt (a .text .now) (a .at + 1) ≡ Read (v .0) (v .1 .0)
 sized c = sym (c .before .before .read-number .ensures) ∙ c .size .given .1
@@ -51,15 +51,29 @@ byte-at-requires-2 c κs = search needs
 returns-3 : tie.Need-returns-3
 returns-3 c =
     let v = c .before .before .before in
-    atoms-unclosed _ _ _ (spaced (v .before .before .before)) (sized v) (sym (c .before .byte-at2 .ensures) ∙ not-true _ (c .if2 .taken))
+    atoms-unclosed _ _ (spaced (v .before .before .before)) (sized v) (sym (c .before .byte-at2 .ensures) ∙ not-true _ (c .if2 .taken))
 
-add-t10 : tie.Need-add-t10
-add-t10 c = let l = byte-got _ _ _ (sym (c .before .byte-at2 .ensures) ∙ not-false _ (c .if2 .left)) .1 in search needs
+clear-requires : tie.Need-clear-requires
+clear-requires c κs = search needs
+
+closed :
+    (c : tie.Else2) →
+    let v = c .before .before .before in
+    let a = v .before .before .before .before .before .before .before .args in
+    wordAt (a .text .now) (v .size .given .0 .1 .0) (41 ∷ []) ≡ true
+closed c = sym (c .before .byte-at2 .ensures) ∙ not-false _ (c .if2 .left)
+
+add-t11 : tie.Need-add-t11
+add-t11 c = let l = byte-got _ _ _ (closed (c .before .before .before .before)) .1 in search needs
+
+same-length : tie.Need-same-length
+same-length c = search needs
 
 returns-4 : tie.Need-returns-4
 returns-4 c =
-    let v = c .before .before .before in
-    atoms-formed _ _ _ (spaced (v .before .before .before)) (sized v) (sym (c .before .byte-at2 .ensures) ∙ not-false _ (c .if2 .left))
+    let end = c .before .before .before .before in
+    let v = end .before .before .before in
+    atoms-formed _ _ (spaced (v .before .before .before)) (sized v) (closed end) _ (c .before .before .clear .ensures)
 
 pub read-atoms-form-spec : {M : Type 1} → statement M
 read-atoms-form-spec =
@@ -74,5 +88,7 @@ read-atoms-form-spec =
     returns-2
     byte-at-requires-2
     returns-3
-    add-t10
+    clear-requires
+    add-t11
+    same-length
     returns-4)

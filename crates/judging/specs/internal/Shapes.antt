@@ -7,7 +7,7 @@ use lib.Dec.{eqb}
 use lib.ListN.{length}
 use Rattle.tables.specs.declared.Fault.the-variants.{OutsideLimits, OutOfOrder, NoSpace}
 use Rattle.format.specs.declared.kinds.Kind.{Kind}
-use Rattle.format.specs.declared.kinds.Kind.the-variants.{Rule, Clause, Load, Open, Claim}
+use Rattle.format.specs.declared.kinds.Kind.the-variants.{Rule, Clause, Load, Open, Claim, Defined}
 use Rattle.format.specs.Forms.{Form}
 use Rattle.format.specs.Views.{View, viewOf, sameKind}
 use Rattle.numerals.specs.internal.Offsets.{capped}
@@ -28,7 +28,8 @@ cappedRise atoms = risesFrom 0 (map capped atoms)
 unfoldable pub partsIn : View → ℕ
 partsIn v =
     cond (sameKind (v .kind) Rule || sameKind (v .kind) Clause) (length (v .literals))
-    (cond (sameKind (v .kind) Load) (length (v .terms)) (cond (sameKind (v .kind) Open) (length (v .atoms)) (length (v .pairs))))
+    (cond (sameKind (v .kind) Load) (length (v .terms))
+    (cond (sameKind (v .kind) Open || sameKind (v .kind) Defined) (length (v .atoms)) (length (v .pairs))))
 
 unfoldable pub shapeOf : Reached → Form → Shape
 shapeOf s f =

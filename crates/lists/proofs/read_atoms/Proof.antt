@@ -21,11 +21,11 @@ use Rattle.lists.proofs.read_atoms.Statement.{statement}
 use Rattle.lists.proofs.read_atoms.Tie as tie
 
 abbrev Inv-loop : tie.InvT-loop
-Inv-loop text at bound values₀ next₀ count₀ within₀ rising₀ floor₀ values next count within rising floor =
-    Marking text at bound values₀ next count within rising floor values
+Inv-loop text at bound table₀ next₀ count₀ within₀ rising₀ floor₀ table next count within rising floor =
+    Marking text at bound table₀ next count within rising floor table
 
 abbrev μ-loop : tie.MeasureT-loop
-μ-loop text at bound values₀ next₀ count₀ within₀ rising₀ floor₀ values next count within rising floor = length text - next
+μ-loop text at bound table₀ next₀ count₀ within₀ rising₀ floor₀ table next count within rising floor = length text - next
 
 loop-holds : tie.Need-loop-holds Inv-loop μ-loop
 loop-holds c = marking-start (c .before .before .pre .0 .reached)

@@ -1,5 +1,5 @@
 -- What the functions promise that store entries and read lists of parts.
-use Prim.Native.Nat.{ℕ, _-_, _≤_}
+use Prim.Native.Nat.{ℕ, _-_, _≤_, _<_}
 use mathlib.Core.Path.{_≡_}
 use mathlib.Core.Bool.{Bool, true, cond}
 use mathlib.Core.List.{List, [], _∷_}
@@ -32,7 +32,13 @@ pub record Lists {A : Type 0} (text : List ℕ) (within : A → Bool) (rising : 
   pub answered : answer ≡ listed text within rising reading
   pub laid : Holds (λ xs rest. all within xs ≡ true → written xs) reading
 
--- The atoms that an open form names, marked one by one.
+-- The atoms that a form names, marked one by one.
 unfoldable pub marked : List ℕ → List ℕ → List ℕ
-marked [] values = values
-marked (atom ∷ atoms) values = marked atoms (set values atom 1)
+marked [] table = table
+marked (atom ∷ atoms) table = marked atoms (set table atom 1)
+
+-- How far a count goes in a table of some length: to the count, or to the end if that comes first.
+pub record FarAs (count length end : ℕ) : Type 0 where
+  pub counted : end ≤ count
+  pub inside : end ≤ length
+  pub stops : end < length → end ≡ count

@@ -1,21 +1,21 @@
 -- `outcome::book_outcome` meets its contract: a claim is checked and an open form evaluated, from the used parts of the tables.
 -- Assumes nothing.
 use borrow.Author.Needs.{needs}
-use Rattle.judging.specs.LentTables.{Rules, Literals, Clauses, Loads, LoadLiterals, Minutes, Values, Levels}
+use Rattle.judging.specs.LentTables.{Rules, Literals, Clauses, Loads, LoadLiterals, Minutes, Marks, Values, Levels}
 use Rattle.forms.specs.Contents.{Contents, lentTables}
 use Rattle.outcome.specs.internal.Promises.{usedIn}
-use Rattle.outcome.proofs.OutcomeLaws.{refused-comes, open-comes, claim-comes}
+use Rattle.outcome.proofs.OutcomeLaws.{part-few, refused-comes, open-comes, claim-comes}
 use Rattle.outcome.proofs.book_outcome.Statement.{statement}
 use Rattle.outcome.proofs.book_outcome.Tie as tie
 
 -- Where the function starts, and the tables that it was lent.
 abbrev began : tie.After-used-levels → tie.Start
-began c = c .before .before .before .before .before .before .before .before .before .before .before .before .before .before .before .before
+began c = c .before .before .before .before .before .before .before .before .before .before .before .before .before .before .before .before .before .before
 
 abbrev tables : tie.Start → Contents
 tables c =
     lentTables (c .args .rules .now) (c .args .literals .now) (c .args .clauses .now) (c .args .loads .now) (c .args .load-literals .now)
-    (c .args .minutes .now) (c .args .given .now) (c .args .given-levels .now)
+    (c .args .minutes .now) (c .args .marks .now) (c .args .given .now) (c .args .given-levels .now)
 
 sub-used-rules : tie.Need-sub-used-rules
 sub-used-rules c = search needs
@@ -25,7 +25,7 @@ part-used-rules-start c = search needs
 
 part-used-rules-end : tie.Need-part-used-rules-end
 unfolding lentTables usedIn
-part-used-rules-end c = search (needs, c .before .before .before .before .before .before .before .before .pre .0 .each Rules)
+part-used-rules-end c = search (needs, c .before .before .before .before .before .before .before .before .before .pre .0 .each Rules)
 
 sub-used-literals : tie.Need-sub-used-literals
 sub-used-literals c = search needs
@@ -35,7 +35,7 @@ part-used-literals-start c = search needs
 
 part-used-literals-end : tie.Need-part-used-literals-end
 unfolding lentTables usedIn
-part-used-literals-end c = search (needs, c .before .before .before .before .before .before .before .before .before .pre .0 .each Literals)
+part-used-literals-end c = search (needs, c .before .before .before .before .before .before .before .before .before .before .pre .0 .each Literals)
 
 sub-used-clauses : tie.Need-sub-used-clauses
 sub-used-clauses c = search needs
@@ -45,7 +45,7 @@ part-used-clauses-start c = search needs
 
 part-used-clauses-end : tie.Need-part-used-clauses-end
 unfolding lentTables usedIn
-part-used-clauses-end c = search (needs, c .before .before .before .before .before .before .before .before .before .before .pre .0 .each Clauses)
+part-used-clauses-end c = search (needs, c .before .before .before .before .before .before .before .before .before .before .before .pre .0 .each Clauses)
 
 sub-used-loads : tie.Need-sub-used-loads
 sub-used-loads c = search needs
@@ -55,7 +55,7 @@ part-used-loads-start c = search needs
 
 part-used-loads-end : tie.Need-part-used-loads-end
 unfolding lentTables usedIn
-part-used-loads-end c = search (needs, c .before .before .before .before .before .before .before .before .before .before .before .pre .0 .each Loads)
+part-used-loads-end c = search (needs, c .before .before .before .before .before .before .before .before .before .before .before .before .pre .0 .each Loads)
 
 sub-used-load-literals : tie.Need-sub-used-load-literals
 sub-used-load-literals c = search needs
@@ -65,7 +65,7 @@ part-used-load-literals-start c = search needs
 
 part-used-load-literals-end : tie.Need-part-used-load-literals-end
 unfolding lentTables usedIn
-part-used-load-literals-end c = search (needs, c .before .before .before .before .before .before .before .before .before .before .before .before .pre .0 .each LoadLiterals)
+part-used-load-literals-end c = search (needs, c .before .before .before .before .before .before .before .before .before .before .before .before .before .pre .0 .each LoadLiterals)
 
 sub-used-minutes : tie.Need-sub-used-minutes
 sub-used-minutes c = search needs
@@ -75,7 +75,17 @@ part-used-minutes-start c = search needs
 
 part-used-minutes-end : tie.Need-part-used-minutes-end
 unfolding lentTables usedIn
-part-used-minutes-end c = search (needs, c .before .before .before .before .before .before .before .before .before .before .before .before .before .pre .0 .each Minutes)
+part-used-minutes-end c = search (needs, c .before .before .before .before .before .before .before .before .before .before .before .before .before .before .pre .0 .each Minutes)
+
+sub-used-marks : tie.Need-sub-used-marks
+sub-used-marks c = search needs
+
+part-used-marks-start : tie.Need-part-used-marks-start
+part-used-marks-start c = search needs
+
+part-used-marks-end : tie.Need-part-used-marks-end
+unfolding lentTables usedIn
+part-used-marks-end c = search (needs, c .before .before .before .before .before .before .before .before .before .before .before .before .before .before .before .pre .0 .each Marks)
 
 sub-used-given : tie.Need-sub-used-given
 sub-used-given c = search needs
@@ -85,7 +95,7 @@ part-used-given-start c = search needs
 
 part-used-given-end : tie.Need-part-used-given-end
 unfolding lentTables usedIn
-part-used-given-end c = search (needs, c .before .before .before .before .before .before .before .before .before .before .before .before .before .before .pre .0 .each Values)
+part-used-given-end c = search (needs, c .before .before .before .before .before .before .before .before .before .before .before .before .before .before .before .before .pre .0 .each Values)
 
 sub-used-levels : tie.Need-sub-used-levels
 sub-used-levels c = search needs
@@ -95,7 +105,7 @@ part-used-levels-start c = search needs
 
 part-used-levels-end : tie.Need-part-used-levels-end
 unfolding lentTables usedIn
-part-used-levels-end c = search (needs, c .before .before .before .before .before .before .before .before .before .before .before .before .before .before .before .pre .0 .each Levels)
+part-used-levels-end c = search (needs, c .before .before .before .before .before .before .before .before .before .before .before .before .before .before .before .before .before .pre .0 .each Levels)
 
 enum-told : tie.Need-enum-told
 enum-told c = search needs
@@ -107,7 +117,7 @@ enum-told-2 : tie.Need-enum-told-2
 enum-told-2 c = search needs
 
 evaluate-book-requires : tie.Need-evaluate-book-requires
-evaluate-book-requires c κs = search needs
+evaluate-book-requires c κs = let s = began (c .before .before .before .before) in (part-few (s .args .given .now) (s .pre .0 .few), s .pre .1)
 
 enum-told-3 : tie.Need-enum-told-3
 enum-told-3 c = search needs
@@ -124,10 +134,10 @@ returns c =
     refused-comes (s .args .book) (tables s) (c .before .enum-told .given .1) (c .verdict-alone .ensures)
 
 same-length : tie.Need-same-length
-same-length c = c .before .before .before .before .evaluate-book .kept .1 .1 .1 .1 .1 .1 .1 .0
+same-length c = c .before .before .before .before .evaluate-book .kept .1 .1 .1 .1 .1 .1 .1 .1 .0
 
 same-length-2 : tie.Need-same-length-2
-same-length-2 c = c .before .before .before .before .evaluate-book .kept .1 .1 .1 .1 .1 .1 .1 .1 .0
+same-length-2 c = c .before .before .before .before .evaluate-book .kept .1 .1 .1 .1 .1 .1 .1 .1 .1 .0
 
 returns-2 : tie.Need-returns-2
 unfolding lentTables
@@ -164,6 +174,9 @@ book-outcome-spec =
     sub-used-minutes
     part-used-minutes-start
     part-used-minutes-end
+    sub-used-marks
+    part-used-marks-start
+    part-used-marks-end
     sub-used-given
     part-used-given-start
     part-used-given-end

@@ -18,7 +18,7 @@ abbrev evaluated : tie.After-is-made → tie.After-evaluate
 evaluated c = c .before .before .before .before .before .before
 
 abbrev began : tie.After-evaluate → tie.Start
-began c = c .before .before .before .before .before .before .before .before .before .before .before
+began c = c .before .before .before .before .before .before .before .before .before .before .before .before
 
 sub-evaluate : tie.Need-sub-evaluate
 sub-evaluate c = search needs
@@ -56,12 +56,12 @@ is-made-requires c κs = search needs
 same-length : tie.Need-same-length
 same-length c =
     let e = evaluated (c .before) in
-    length-front (began e .args .values .now) (e .evaluate .last .1 .1 .1 .1 .1 .1 .1 .1 .0) (length (began e .args .given .now) - 0) (e .evaluate .kept .1 .1 .1 .1 .1 .1 .1 .1 .0)
+    length-front (began e .args .values .now) (e .evaluate .last .1 .1 .1 .1 .1 .1 .1 .1 .1 .0) (length (began e .args .given .now) - 0) (e .evaluate .kept .1 .1 .1 .1 .1 .1 .1 .1 .1 .0)
 
 same-length-2 : tie.Need-same-length-2
 same-length-2 c =
     let e = evaluated (c .before) in
-    length-front (began e .args .levels .now) (e .evaluate .last .1 .1 .1 .1 .1 .1 .1 .1 .1 .0) (length (began e .args .given .now) - 0) (e .evaluate .kept .1 .1 .1 .1 .1 .1 .1 .1 .1 .0)
+    length-front (began e .args .levels .now) (e .evaluate .last .1 .1 .1 .1 .1 .1 .1 .1 .1 .1 .0) (length (began e .args .given .now) - 0) (e .evaluate .kept .1 .1 .1 .1 .1 .1 .1 .1 .1 .1 .0)
 
 returns : tie.Need-returns
 unfolding lent
@@ -74,12 +74,12 @@ returns c =
 same-length-3 : tie.Need-same-length-3
 same-length-3 c =
     let e = evaluated (c .before) in
-    length-front (began e .args .values .now) (e .evaluate .last .1 .1 .1 .1 .1 .1 .1 .1 .0) (length (began e .args .given .now) - 0) (e .evaluate .kept .1 .1 .1 .1 .1 .1 .1 .1 .0)
+    length-front (began e .args .values .now) (e .evaluate .last .1 .1 .1 .1 .1 .1 .1 .1 .1 .0) (length (began e .args .given .now) - 0) (e .evaluate .kept .1 .1 .1 .1 .1 .1 .1 .1 .1 .0)
 
 same-length-4 : tie.Need-same-length-4
 same-length-4 c =
     let e = evaluated (c .before) in
-    length-front (began e .args .levels .now) (e .evaluate .last .1 .1 .1 .1 .1 .1 .1 .1 .1 .0) (length (began e .args .given .now) - 0) (e .evaluate .kept .1 .1 .1 .1 .1 .1 .1 .1 .1 .0)
+    length-front (began e .args .levels .now) (e .evaluate .last .1 .1 .1 .1 .1 .1 .1 .1 .1 .1 .0) (length (began e .args .given .now) - 0) (e .evaluate .kept .1 .1 .1 .1 .1 .1 .1 .1 .1 .1 .0)
 
 returns-2 : tie.Need-returns-2
 unfolding lent

@@ -12,13 +12,13 @@ use Rattle.outcome.proofs.outcome_of.Tie as tie
 
 -- The walk was answered, before the tables were lent again; it was made in the sizes of full tables.
 abbrev answered : tie.After-book-outcome-arg2 → tie.After-answer-of
-answered c = c .before .before .before .before .before .before .before .before .before .before
+answered c = c .before .before .before .before .before .before .before .before .before .before .before
 
 abbrev walked : tie.After-answer-of → tie.After-walk
-walked c = c .before .before .before .before .before .before .before .before .before
+walked c = c .before .before .before .before .before .before .before .before .before .before
 
 abbrev sized : tie.After-walk → tie.After-full-space
-sized c = c .before .before .before .before .before .before .before .before .before
+sized c = c .before .before .before .before .before .before .before .before .before .before
 
 full-space-requires : tie.Need-full-space-requires
 full-space-requires c κs = tt
@@ -46,6 +46,9 @@ slice-aggregate-walk-7 c = search needs
 
 slice-aggregate-walk-8 : tie.Need-slice-aggregate-walk-8
 slice-aggregate-walk-8 c = search needs
+
+slice-aggregate-walk-9 : tie.Need-slice-aggregate-walk-9
+slice-aggregate-walk-9 c = search needs
 
 walk-requires : tie.Need-walk-requires
 walk-requires c κs = tt
@@ -77,6 +80,9 @@ slice-aggregate-book-outcome-7 c = search needs
 slice-aggregate-book-outcome-8 : tie.Need-slice-aggregate-book-outcome-8
 slice-aggregate-book-outcome-8 c = search needs
 
+slice-aggregate-book-outcome-9 : tie.Need-slice-aggregate-book-outcome-9
+slice-aggregate-book-outcome-9 c = search needs
+
 book-outcome-requires : tie.Need-book-outcome-requires
 unfolding spaceOf lentTables fullSpace spaceWith fullSize
 book-outcome-requires c κs =
@@ -86,10 +92,10 @@ book-outcome-requires c κs =
     (text-read _ _ refl (size .full-space .ensures) (walk .walk .ensures) (answer .answer-of .ensures) .fit, size .before .before .before .before .pre)
 
 same-length : tie.Need-same-length
-same-length c = c .before .before .before .before .book-outcome .kept .1 .1 .1 .1 .1 .1 .1 .1 .1 .0
+same-length c = c .before .before .before .before .book-outcome .kept .1 .1 .1 .1 .1 .1 .1 .1 .1 .1 .0
 
 same-length-2 : tie.Need-same-length-2
-same-length-2 c = c .before .before .before .before .book-outcome .kept .1 .1 .1 .1 .1 .1 .1 .1 .1 .1 .0
+same-length-2 c = c .before .before .before .before .book-outcome .kept .1 .1 .1 .1 .1 .1 .1 .1 .1 .1 .1 .0
 
 returns : tie.Need-returns
 unfolding spaceOf lentTables fullSpace spaceWith fullSize
@@ -112,6 +118,7 @@ outcome-of-spec =
     slice-aggregate-walk-6
     slice-aggregate-walk-7
     slice-aggregate-walk-8
+    slice-aggregate-walk-9
     walk-requires
     answer-of-requires
     slice-aggregate-book-outcome
@@ -122,6 +129,7 @@ outcome-of-spec =
     slice-aggregate-book-outcome-6
     slice-aggregate-book-outcome-7
     slice-aggregate-book-outcome-8
+    slice-aggregate-book-outcome-9
     book-outcome-requires
     same-length
     same-length-2

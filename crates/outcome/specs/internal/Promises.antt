@@ -5,7 +5,7 @@ use mathlib.Core.List.{List}
 use lib.ListN.{length, take}
 use Rattle.tables.specs.declared.Verdict.{Verdict}
 use Rattle.tables.specs.Limits.{maxAtoms}
-use Rattle.judging.specs.LentTables.{Table, Rules, Literals, Clauses, Loads, LoadLiterals, Minutes, Values, Levels}
+use Rattle.judging.specs.LentTables.{Table, Rules, Literals, Clauses, Loads, LoadLiterals, Minutes, Marks, Values, Levels}
 use Rattle.forms.specs.Contents.{Contents, over}
 use Rattle.booktext.specs.declared.StateForm.{StateForm}
 use Rattle.booktext.specs.declared.Book.{Book}
@@ -19,6 +19,7 @@ usedIn book Clauses = book .clauses
 usedIn book Loads = book .loads
 usedIn book LoadLiterals = book .terms
 usedIn book Minutes = book .terms
+usedIn book Marks = book .atoms
 usedIn book Values = book .atoms
 usedIn book Levels = book .atoms
 

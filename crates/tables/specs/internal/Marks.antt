@@ -1,10 +1,12 @@
 -- Marks on atoms, as a scan keeps them in an array.
-use Prim.Native.Nat.{ℕ}
+use Prim.Native.Nat.{ℕ, _<_}
+use mathlib.Core.Path.{_≡_}
 use mathlib.Core.Bool.{Bool, cond}
 use mathlib.Core.List.{List}
 use lib.Dec.{eqb}
 use lib.ListN.{length, getD}
 use Rattle.wellfounded.specs.Lists.{tabulate}
+use Rattle.tables.specs.Rows.{definedBy}
 
 -- An atom is marked by 1.
 unfoldable pub isMarked : List ℕ → ℕ → Bool
@@ -13,3 +15,13 @@ isMarked marks atom = eqb (getD marks atom 0) 1
 -- The marks with 1 put at every atom that passes the test.
 unfoldable pub markWhere : (ℕ → Bool) → List ℕ → List ℕ
 markWhere passes marks = tabulate (length marks) (λ atom. cond (passes atom) 1 (getD marks atom 0))
+
+-- A book's marks that were copied to the front of others, with nothing asked of what lies beyond.
+pub record Copied (marks before now : List ℕ) : Type 0 where
+  pub long : length now ≡ length before
+  pub same : (atom : ℕ) → atom < length marks → getD now atom 0 ≡ getD marks atom 0
+
+-- Marks in an array of some size that tell which atoms a book's rules and marks define.
+pub record TellsDefined (rules marks : List ℕ) (size : ℕ) (now : List ℕ) : Type 0 where
+  pub long : length now ≡ size
+  pub tells : (atom : ℕ) → atom < length marks → isMarked now atom ≡ definedBy rules marks atom

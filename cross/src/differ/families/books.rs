@@ -5,7 +5,7 @@ use crate::random::Random;
 use crate::{
     book::{Book, Verdict},
     differ::{
-        books::{add_conditions, definition, tighten, Shape},
+        books::{add_conditions, definition, tighten, Marking, Shape},
         case::Case,
         forms::{Forms, Load, Rule},
         session::{Compared, Found, Session},
@@ -16,16 +16,16 @@ use crate::{
 /// How many rounds there are for each one with a large book, which takes the solver long.
 const ROUNDS_FOR_A_LARGE_BOOK: usize = 100;
 
-pub fn compare_all(session: &mut Session) -> Compared {
+pub fn compare_all(session: &mut Session, marking: Marking) -> Compared {
     for round in 0..session.count {
         let n = size(&mut session.random);
-        compare_shape(session, Shape::ALL[round % Shape::ALL.len()], n)?;
+        compare_shape(session, Shape::ALL[round % Shape::ALL.len()], n, marking)?;
     }
     for round in 0..session.count.div_ceil(ROUNDS_FOR_A_LARGE_BOOK) {
         let n = 200 + session.random.below(825);
-        compare_shape(session, Shape::ALL[round % Shape::ALL.len()], n)?;
+        compare_shape(session, Shape::ALL[round % Shape::ALL.len()], n, marking)?;
     }
-    at_the_limits(session)
+    at_the_limits(session, marking)
 }
 
 /// Mostly few atoms.
@@ -34,9 +34,10 @@ fn size(random: &mut Random) -> usize {
     1 + random.below(most)
 }
 
-fn compare_shape(session: &mut Session, shape: Shape, n: usize) -> Compared {
+fn compare_shape(session: &mut Session, shape: Shape, n: usize, marking: Marking) -> Compared {
     let random = &mut session.random;
     let mut forms = definition(random, shape, n);
+    marking.declare(random, &mut forms);
     add_conditions(random, &mut forms, (2 * n).min(2_048), n.min(64));
     let defined = forms.defined();
     let settings = match n {
@@ -77,14 +78,15 @@ fn compare_made(session: &mut Session, book: &Book, setting: &[u8]) -> Result<Ve
 }
 
 /// Books with as many atoms, rules, literals, clauses, load lines and terms as there may be, of each shape with 1,024 atoms.
-fn at_the_limits(session: &mut Session) -> Compared {
+fn at_the_limits(session: &mut Session, marking: Marking) -> Compared {
     for shape in Shape::ALL {
-        compare_shape(session, shape, 1_024)?;
+        compare_shape(session, shape, 1_024, marking)?;
     }
     largest_sums(session)?;
     longest_bodies(session)?;
     for one_more in [false, true] {
-        let forms = full(&mut session.random);
+        let mut forms = full(&mut session.random);
+        marking.declare(&mut session.random, &mut forms);
         let setting = settings::some(&mut session.random, &forms.defined());
         let mut book = forms.book();
         if one_more {
@@ -105,7 +107,7 @@ fn full(random: &mut Random) -> Forms {
     clauses.push(literals(16_384 - used - 2_047 * 5));
     let terms = |row: i32| (0..64).map(|term| (term as i16 * 45 - 1_440, ((row * 64 + term) % 2_048) as u16)).collect();
     let loads = (0..64).map(|row| Load { lo: -1_000_000, hi: 1_000_000, terms: terms(row) }).collect();
-    Forms { n, rules, clauses, loads }
+    Forms { n, rules, clauses, loads, ..Forms::default() }
 }
 
 /// 4,096 terms of 1,440 minutes are 983,040 tenths.
@@ -125,7 +127,7 @@ fn longest_bodies(session: &mut Session) -> Compared {
         let mut literals = vec![0; 16_384];
         literals[16_383] = last;
         let rules = (0..2_048).flat_map(|row| [1 + row % 1_023, 0, 16_384]).collect();
-        let book = Book { n: 1_024, rules, literals, ..Book::default() };
+        let book = Book { rules, literals, ..Book::of_atoms(1_024) };
         let mut setting = vec![0; 1_024];
         setting[0] = 1;
         compare_made(session, &book, &setting)?;

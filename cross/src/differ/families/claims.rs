@@ -3,7 +3,7 @@
 use crate::{
     book::{Book, Claim},
     differ::{
-        books::{add_conditions, definition, Shape},
+        books::{add_conditions, definition, Marking, Shape},
         case::Case,
         claims::{level_changed, stretched, swapped, value_changed},
         session::{Compared, Session},
@@ -11,12 +11,13 @@ use crate::{
     },
 };
 
-pub fn compare_all(session: &mut Session) -> Compared {
+pub fn compare_all(session: &mut Session, marking: Marking) -> Compared {
     for round in 0..session.count {
         let random = &mut session.random;
         let n = 1 + random.pick(&[1, 2, 4, 8, 8, 8, 30, 30, 100]);
         let shape = Shape::ALL[round % Shape::ALL.len()];
         let mut forms = definition(random, shape, n);
+        marking.declare(random, &mut forms);
         add_conditions(random, &mut forms, 3, 2);
         let setting = settings::some(random, &forms.defined());
         let book = forms.book();

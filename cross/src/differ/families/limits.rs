@@ -64,6 +64,8 @@ fn numbers() -> Vec<Limit> {
         in_line("(claim (# 0) (0 0))", "255", "256"),
         in_line("(claim (0 0) (0 #))", "65535", "65536"),
         limit("(atoms 1024)\n", "(open 1023)\n", "(open 1024)\n"),
+        in_line("(defined #)", "1", "2"),
+        limit("(atoms 1024)\n", "(defined 1023)\n", "(defined 1024)\n"),
     ]
 }
 
@@ -99,7 +101,8 @@ fn counts() -> Vec<Limit> {
 /// needs the entry.
 fn short_tables(session: &mut Session) -> Compared {
     let text = b"(atoms 3)\n(rule 0 1 2)\n(clause 0 1)\n(load 0 9 (3 0) (4 1))\n(claim (0 1) (0 0) (0 0))\n";
-    let exact = Lengths { rules: 3, literals: 4, clauses: 2, loads: 4, load_literals: 2, minutes: 2, values: 3, levels: 3 };
+    let exact =
+        Lengths { rules: 3, literals: 4, clauses: 2, loads: 4, load_literals: 2, minutes: 2, marks: 3, values: 3, levels: 3 };
     let says = "4 where one entry is missing";
     session.stated(says, Case::read(text, exact), Verdict::ACCEPTED)?;
     let (rule, clause, load, state) = (10, 23, 36, 59);
@@ -110,6 +113,7 @@ fn short_tables(session: &mut Session) -> Compared {
     session.stated(says, Case::read(text, Lengths { loads: 3, ..exact }), Verdict::refused(4, load))?;
     session.stated(says, Case::read(text, Lengths { load_literals: 1, ..exact }), Verdict::refused(4, load))?;
     session.stated(says, Case::read(text, Lengths { minutes: 1, ..exact }), Verdict::refused(4, load))?;
+    session.stated(says, Case::read(text, Lengths { marks: 2, ..exact }), Verdict::refused(4, state))?;
     session.stated(says, Case::read(text, Lengths { values: 2, ..exact }), Verdict::refused(4, state))?;
     session.stated(says, Case::read(text, Lengths { levels: 2, ..exact }), Verdict::refused(4, state))
 }

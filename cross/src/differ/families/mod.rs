@@ -9,19 +9,37 @@ mod tables;
 mod texts;
 
 use super::{
+    books::Marking,
     readings,
     samples::{self, Sample},
     session::{Compared, Session},
 };
+use crate::random::Random;
 
 pub struct Family {
+    /// Chooses the random cases together with the seed of a run. It stays with its family, so that one put before others leaves
+    /// their cases as they were.
+    number: u64,
     pub name: &'static str,
     run: Box<dyn Fn(&mut Session) -> Compared>,
 }
 
 impl Family {
-    fn new(name: &'static str, run: impl Fn(&mut Session) -> Compared + 'static) -> Family {
-        Family { name, run: Box::new(run) }
+    fn new(number: u64, name: &'static str, run: impl Fn(&mut Session) -> Compared + 'static) -> Family {
+        Family { number, name, run: Box::new(run) }
+    }
+
+    /// A family once more with declared atoms, in half as many rounds.
+    fn marked(number: u64, name: &'static str, run: impl Fn(&mut Session, Marking) -> Compared + 'static) -> Family {
+        Family::new(number, name, move |session| {
+            session.count = session.count.div_ceil(2);
+            run(session, Marking::Some)
+        })
+    }
+
+    /// What its random cases are chosen by in a run of this seed.
+    pub fn random(&self, seed: u64) -> Random {
+        Random::new(seed.wrapping_mul(1_000).wrapping_add(self.number))
     }
 
     pub fn run(&self, session: &mut Session) -> Compared {
@@ -32,19 +50,29 @@ impl Family {
 /// `refusals` are the texts of docs/REFUSALS.md.
 pub fn all(refusals: Vec<Sample>) -> Vec<Family> {
     vec![
-        Family::new("samples of the paper", |session| compare_samples(session, &samples::of_the_paper())),
-        Family::new("texts of docs/REFUSALS.md", move |session| compare_samples(session, &refusals)),
-        Family::new("readings of the paper", |session| {
+        Family::new(0, "samples of the paper", |session| compare_samples(session, &samples::of_the_paper())),
+        Family::new(1, "texts of docs/REFUSALS.md", move |session| compare_samples(session, &refusals)),
+        Family::new(2, "readings of the paper", |session| {
             compare_samples(session, &readings::texts::all())?;
             readings::tables::compare_all(session)
         }),
-        Family::new("every small book", small::compare_all),
-        Family::new("random books", books::compare_all),
-        Family::new("damaged claims", claims::compare_all),
-        Family::new("texts", texts::compare_all),
-        Family::new("limits of texts", limits::compare_all),
-        Family::new("unsound tables", tables::compare_all),
-        Family::new("pages of the program", pages::compare_all),
+        Family::new(10, "readings on declared atoms", |session| {
+            compare_samples(session, &readings::declared::texts())?;
+            readings::declared::compare_all(session)
+        }),
+        Family::new(3, "every small book", |session| small::compare_all(session, Marking::None)),
+        Family::marked(11, "every small book with marks", small::compare_all),
+        Family::new(4, "random books", |session| books::compare_all(session, Marking::None)),
+        Family::marked(12, "random books with marks", books::compare_all),
+        Family::new(5, "damaged claims", |session| claims::compare_all(session, Marking::None)),
+        Family::marked(13, "damaged claims with marks", claims::compare_all),
+        Family::new(6, "texts", |session| texts::compare_all(session, Marking::None)),
+        Family::marked(14, "texts with marks", texts::compare_all),
+        Family::new(7, "limits of texts", limits::compare_all),
+        Family::new(8, "unsound tables", |session| tables::compare_all(session, Marking::None)),
+        Family::marked(15, "unsound tables with marks", tables::compare_all),
+        Family::new(9, "pages of the program", |session| pages::compare_all(session, Marking::None)),
+        Family::marked(16, "pages of the program with marks", pages::compare_all),
     ]
 }
 

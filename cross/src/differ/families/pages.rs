@@ -2,7 +2,7 @@
 
 use super::texts::some_text;
 use crate::differ::{
-    books::{definition, Shape},
+    books::{definition, Marking, Shape},
     damage::damaged,
     forms::open_form,
     session::{Compared, Session},
@@ -13,22 +13,23 @@ use crate::differ::{
 const ROUNDS_FOR_A_PROCESS: usize = 50;
 const ROUNDS_FOR_PAGES: usize = 10;
 
-pub fn compare_all(session: &mut Session) -> Compared {
+pub fn compare_all(session: &mut Session, marking: Marking) -> Compared {
     for _ in 0..session.count.div_ceil(ROUNDS_FOR_A_PROCESS) {
-        let text = some_text(session, 40);
+        let text = some_text(session, 40, marking);
         session.page(&text)?;
         let text = damaged(&mut session.random, &text);
         session.page(&text)?;
     }
     for _ in 0..session.count.div_ceil(ROUNDS_FOR_PAGES) {
-        let text = some_text(session, 40);
+        let text = some_text(session, 40, marking);
         session.report(&text)?;
         let text = damaged(&mut session.random, &text);
         session.report(&text)?;
     }
     for shape in Shape::ALL {
         let random = &mut session.random;
-        let forms = definition(random, shape, 300);
+        let mut forms = definition(random, shape, 300);
+        marking.declare(random, &mut forms);
         let setting = settings::some(random, &forms.defined());
         session.page(&forms.text(&open_form(&setting)))?;
     }

@@ -1,8 +1,11 @@
 //! Very small books with every claim: all books of two atoms with up to two rules and bodies of up to two literals, and random
 //! ones of three atoms. Over these, what the check and the maker promise together is looked at in full.
+//!
+//! With marks, books of up to one rule have either atom declared or both. Books with conditions and books of two rules have both
+//! declared, the latter only where the rules have one head: else a mark makes no atom defined that is not defined without it.
 
 use crate::differ::{
-    books::{definition, Shape},
+    books::{definition, Marking, Shape},
     by_trying::{model, Model},
     case::Case,
     forms::{Forms, Load, Rule},
@@ -13,28 +16,58 @@ use crate::differ::{
 /// How many rounds there are for each book of three atoms, which has about a thousand claims.
 const ROUNDS_FOR_THREE_ATOMS: usize = 200;
 
-pub fn compare_all(session: &mut Session) -> Compared {
-    let rules = every_rule();
-    compare_book(session, &of_two_atoms(&[]))?;
-    for first in &rules {
-        let book = of_two_atoms(&[first]);
-        compare_book(session, &book)?;
-        for conditions in conditions() {
-            compare_book(session, &Forms { clauses: conditions.clauses, loads: conditions.loads, ..book.clone() })?;
+pub fn compare_all(session: &mut Session, marking: Marking) -> Compared {
+    match marking {
+        Marking::None => {
+            up_to_one_rule(session, &[])?;
+            with_conditions(session, &[])?;
+            two_rules(session, &[], |_, _| true)?;
         }
-        for second in &rules {
-            compare_book(session, &of_two_atoms(&[first, second]))?;
+        Marking::Some => {
+            up_to_one_rule(session, &[0])?;
+            up_to_one_rule(session, &[1])?;
+            up_to_one_rule(session, &[0, 1])?;
+            with_conditions(session, &[0, 1])?;
+            two_rules(session, &[0, 1], |first, second| first.head == second.head)?;
         }
     }
     for round in 0..session.count.div_ceil(ROUNDS_FOR_THREE_ATOMS) {
-        let book = definition(&mut session.random, Shape::ALL[round % Shape::ALL.len()], 3);
+        let mut book = definition(&mut session.random, Shape::ALL[round % Shape::ALL.len()], 3);
+        marking.declare(&mut session.random, &mut book);
         compare_book(session, &book)?;
     }
     Ok(())
 }
 
-fn of_two_atoms(rules: &[&Rule]) -> Forms {
-    Forms { n: 2, rules: rules.iter().map(|&rule| rule.clone()).collect(), ..Forms::default() }
+/// A book of two atoms, these among them declared.
+fn of_two_atoms(declared: &[u16], rules: &[&Rule]) -> Forms {
+    let rules = rules.iter().map(|&rule| rule.clone()).collect();
+    Forms { n: 2, declared: declared.to_vec(), rules, ..Forms::default() }
+}
+
+fn up_to_one_rule(session: &mut Session, declared: &[u16]) -> Compared {
+    compare_book(session, &of_two_atoms(declared, &[]))?;
+    every_rule().iter().try_for_each(|rule| compare_book(session, &of_two_atoms(declared, &[rule])))
+}
+
+fn with_conditions(session: &mut Session, declared: &[u16]) -> Compared {
+    for rule in every_rule() {
+        for conditions in conditions() {
+            let book = of_two_atoms(declared, &[&rule]);
+            compare_book(session, &Forms { clauses: conditions.clauses, loads: conditions.loads, ..book })?;
+        }
+    }
+    Ok(())
+}
+
+fn two_rules(session: &mut Session, declared: &[u16], wanted: impl Fn(&Rule, &Rule) -> bool) -> Compared {
+    let rules = every_rule();
+    for first in &rules {
+        for second in rules.iter().filter(|second| wanted(first, second)) {
+            compare_book(session, &of_two_atoms(declared, &[first, second]))?;
+        }
+    }
+    Ok(())
 }
 
 /// Two heads with bodies of none, one and two of the four literals.

@@ -1,24 +1,25 @@
 //! Tables as a careless host lends them: wrong lengths, rows past the end and over each other, places that no row uses, extreme
-//! numbers.
+//! numbers, marks that are none.
 
 use crate::random::Random;
 use crate::{
     book::{Book, Claim},
     differ::{
-        books::{add_conditions, definition, Shape},
+        books::{add_conditions, definition, Marking, Shape},
         case::{Case, Written},
         claims,
         session::{Compared, Session},
     },
 };
 
-pub fn compare_all(session: &mut Session) -> Compared {
+pub fn compare_all(session: &mut Session, marking: Marking) -> Compared {
     for round in 0..session.count {
         let random = &mut session.random;
         let mut book = if round % 4 == 0 { arbitrary(random) } else { overlapping(random) };
         for _ in 0..random.pick(&[0, 0, 1, 1, 2]) {
             damage(random, &mut book);
         }
+        book.marks = marks(random, book.n, marking);
         let open_values = setting(random, &book);
         let mut length = || slice_length(random, book.n);
         let written = Written { values: length(), levels: length(), work: length() };
@@ -27,7 +28,10 @@ pub fn compare_all(session: &mut Session) -> Compared {
         session.compare(Case::check(&book, &claim.values, &claim.levels))?;
         session.compare(Case::Evaluate { book, open_values, written })?;
     }
-    extreme_sizes(session)
+    match marking {
+        Marking::None => extreme_sizes(session),
+        Marking::Some => extreme_marks(session),
+    }
 }
 
 /// Sound tables whose rows were laid down consecutively and then moved about: over each other, with unused places between.
@@ -74,7 +78,29 @@ fn arbitrary(random: &mut Random) -> Book {
         loads: list(random, 4, any_i32),
         load_literals: (0..terms).map(|_| random.pick(&[0, 1, 2, 3, 2, 3, 5, 2_047, 2_048, 65_535])).collect(),
         minutes: (0..terms).map(|_| random.pick(&[0, 3, -3, 4, 9, 1_440, -1_440, 1_441, -1_441, i16::MIN, i16::MAX])).collect(),
+        ..Book::default()
     }
+}
+
+/// All 0, one for each atom; or any, of which a part is bad: in one place, at the first or the last atom, or in number.
+fn marks(random: &mut Random, n: usize, marking: Marking) -> Vec<u8> {
+    let n = lendable(n);
+    if marking == Marking::None {
+        return vec![0; n];
+    }
+    let mut marks: Vec<u8> = (0..n).map(|_| random.pick(&[0, 0, 1])).collect();
+    let bad = random.pick(&[2, 2, 3, 128, 255]);
+    match random.below(14) {
+        0 => change(random, &mut marks, |_| bad),
+        1 => marks.iter_mut().take(1).for_each(|mark| *mark = bad),
+        2 => marks.iter_mut().rev().take(1).for_each(|mark| *mark = bad),
+        3 => marks.resize(n.saturating_sub(1), 0),
+        4 => marks.resize(n + 1, random.pick(&[0, 1, bad])),
+        5 => marks = vec![],
+        6 => marks = vec![bad; n],
+        _ => {}
+    }
+    marks
 }
 
 /// Up to three rows of this width.
@@ -131,9 +157,18 @@ fn change_length(random: &mut Random, book: &mut Book) {
     }
 }
 
-/// Mostly N, or what a u16 would hold of it where it is too large to be lent.
+/// N, or what a u16 would hold of it where it is too large to be lent.
+fn lendable(n: usize) -> usize {
+    if n <= 1_100 {
+        n
+    } else {
+        n % 65_536 % 1_100
+    }
+}
+
+/// Mostly N.
 fn slice_length(random: &mut Random, n: usize) -> usize {
-    let n = if n <= 1_100 { n } else { n % 65_536 % 1_100 };
+    let n = lendable(n);
     match random.below(16) {
         0 => n + 1,
         1 => n.saturating_sub(1),
@@ -149,7 +184,8 @@ fn setting(random: &mut Random, book: &Book) -> Vec<u8> {
         change(random, &mut open_values, |random| random.pick(&[1, 2, 255]));
     } else {
         let heads = book.rules.chunks_exact(3).map(|row| usize::from(row[0]));
-        heads.for_each(|head| open_values.iter_mut().skip(head).take(1).for_each(|value| *value = 0));
+        let declared = (0..book.marks.len()).filter(|&atom| book.marks[atom] == 1);
+        heads.chain(declared).for_each(|atom| open_values.iter_mut().skip(atom).take(1).for_each(|value| *value = 0));
     }
     open_values
 }
@@ -194,8 +230,23 @@ fn compare_lengths(session: &mut Session, n: usize, lengths: [usize; 6]) -> Comp
         loads: vec![0; lengths[3]],
         load_literals: vec![0; lengths[4]],
         minutes: vec![0; lengths[5]],
+        marks: vec![0; lendable(n)],
     };
-    let slice = if n <= 1_100 { n } else { n % 65_536 % 1_100 };
+    let slice = lendable(n);
     session.compare(Case::check(&book, &vec![0; slice], &vec![0; slice]))?;
     session.compare(Case::Evaluate { book, open_values: vec![0; slice], written: Written::all(slice) })
+}
+
+/// Few marks and many for any number of atoms; also numbers that a u16 would cut down to N.
+fn extreme_marks(session: &mut Session) -> Compared {
+    for n in [0_usize, 1, 2, 1_023, 1_024, 1_025] {
+        for length in [0, 1, 2, n.saturating_sub(1), n, n + 1, 1_024, 1_025, 65_536, 65_536 + n] {
+            for mark in [0, 1, 2, 255] {
+                let book = Book { marks: vec![mark; length], ..Book::of_atoms(n) };
+                session.compare(Case::check(&book, &vec![0; n], &vec![1; n]))?;
+                session.compare(Case::evaluate(&book, &vec![0; n]))?;
+            }
+        }
+    }
+    Ok(())
 }

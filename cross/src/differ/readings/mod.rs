@@ -1,4 +1,5 @@
 //! How unclear places of the paper are read: each reading as a text or as tables, with the verdict that it gives.
 
+pub mod declared;
 pub mod tables;
 pub mod texts;

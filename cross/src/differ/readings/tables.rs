@@ -33,7 +33,8 @@ fn lent_to_the_reader(session: &mut Session) -> Compared {
     session.stated(says, Case::read(open, Lengths { values: 1, ..full }), Verdict::refused(4, 10))?;
 
     let says = "2 and 3 on a line beat 4";
-    let nothing = Lengths { rules: 0, literals: 0, clauses: 0, loads: 0, load_literals: 0, minutes: 0, values: 0, levels: 0 };
+    let nothing =
+        Lengths { rules: 0, literals: 0, clauses: 0, loads: 0, load_literals: 0, minutes: 0, marks: 0, values: 0, levels: 0 };
     session.stated(says, Case::read(b"(atoms 2)\n(rule 1024)\n", nothing), Verdict::refused(2, 10))?;
     session.stated(says, Case::read(b"(rule 0)\n", nothing), Verdict::refused(3, 0))?;
     session.stated(says, Case::read(b"(atoms 2)\n", nothing), Verdict::refused(3, 10))?;
@@ -46,6 +47,7 @@ fn lent_to_the_reader(session: &mut Session) -> Compared {
         loads: 300,
         load_literals: 5_000,
         minutes: 4_999,
+        marks: 1_500,
         values: 2_000,
         levels: 3_000,
     };
@@ -54,7 +56,7 @@ fn lent_to_the_reader(session: &mut Session) -> Compared {
 
 /// One open atom, and three places in each table that rows point into.
 fn three_places() -> Book {
-    Book { n: 1, literals: vec![0; 3], load_literals: vec![0; 3], minutes: vec![6; 3], ..Book::default() }
+    Book { literals: vec![0; 3], load_literals: vec![0; 3], minutes: vec![6; 3], ..Book::of_atoms(1) }
 }
 
 fn ends_of_rows(session: &mut Session) -> Compared {
@@ -102,7 +104,7 @@ fn lengths_of_slices(session: &mut Session) -> Compared {
         session.stated(says, Case::evaluate(&book, &vec![0; length]), faulty)?;
     }
     let says = "N = 1,025 with every slice 1,025 long is 11";
-    let large = Book { n: 1_025, ..Book::default() };
+    let large = Book::of_atoms(1_025);
     session.stated(says, Case::check(&large, &[0; 1_025], &[0; 1_025]), Verdict::refused(11, 0))?;
     session.stated(says, Case::evaluate(&large, &[0; 1_025]), Verdict::refused(11, 0))
 }

@@ -9,7 +9,7 @@ pub fn all() -> Vec<Sample> {
 }
 
 /// Texts that show one reading, each with the last line that is printed.
-fn reading<T: Into<Vec<u8>>, const TEXTS: usize>(says: &str, texts: [(T, &str); TEXTS]) -> Vec<Sample> {
+pub(super) fn reading<T: Into<Vec<u8>>, const TEXTS: usize>(says: &str, texts: [(T, &str); TEXTS]) -> Vec<Sample> {
     texts.into_iter().map(|(text, line)| Sample::last_line(says, text, line)).collect()
 }
 

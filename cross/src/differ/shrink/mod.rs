@@ -71,6 +71,7 @@ fn fuller(lent: &Lengths) -> impl Iterator<Item = Lengths> {
         Lengths { loads: full.loads, ..*lent },
         Lengths { load_literals: full.load_literals, ..*lent },
         Lengths { minutes: full.minutes, ..*lent },
+        Lengths { marks: full.marks, ..*lent },
         Lengths { values: full.values, ..*lent },
         Lengths { levels: full.levels, ..*lent },
     ];

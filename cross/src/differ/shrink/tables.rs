@@ -59,16 +59,18 @@ fn numbers(book: &Book) -> Smaller<'_, Book> {
     let loads = smaller_numbers(&book.loads).map(|loads| Book { loads, ..book.clone() });
     let load_literals = smaller_numbers(&book.load_literals).map(|load_literals| Book { load_literals, ..book.clone() });
     let minutes = smaller_numbers(&book.minutes).map(|minutes| Book { minutes, ..book.clone() });
-    Box::new(rules.chain(literals).chain(clauses).chain(loads).chain(load_literals).chain(minutes))
+    let marks = smaller_numbers(&book.marks).map(|marks| Book { marks, ..book.clone() });
+    Box::new(rules.chain(literals).chain(clauses).chain(loads).chain(load_literals).chain(minutes).chain(marks))
 }
 
-/// Each atom that no head and no literal names, and the book without it: atoms above it move down.
+/// Each atom that no head and no literal names, and the book without it and its mark: atoms above it move down.
 pub fn without_an_atom(book: &Book) -> Smaller<'_, (usize, Book)> {
     let literals = || book.literals.iter().chain(&book.load_literals).map(|&literal| usize::from(literal / 2));
     let named =
         move |atom: usize| literals().chain(book.rules.iter().step_by(3).map(|&head| usize::from(head))).any(|other| other == atom);
     Box::new((0..book.n.min(1_024)).rev().filter(move |&atom| !named(atom)).map(|atom| {
         let mut smaller = Book { n: book.n - 1, ..book.clone() };
+        smaller.marks = without(&book.marks, atom.min(book.marks.len())..(atom + 1).min(book.marks.len()));
         let entries = smaller.literals.iter_mut().chain(&mut smaller.load_literals);
         entries.filter(|literal| usize::from(**literal / 2) > atom).for_each(|literal| *literal -= 2);
         let heads = smaller.rules.iter_mut().step_by(3);

@@ -3,7 +3,7 @@
 use mathlib.Core.Path.{refl}
 use borrow.Author.Needs.{needs}
 use native.Mathlib.Nat.{add-zero}
-use Rattle.format.specs.declared.kinds.Kind.the-variants.{Atoms, Open, Claim, Unknown}
+use Rattle.format.specs.declared.kinds.Kind.the-variants.{Atoms, Open, Claim, Defined, Unknown}
 use Rattle.format.specs.Views.{kindNumber, sameKind}
 use Rattle.judging.specs.States.{phaseAfter, advanced}
 use Rattle.judging.specs.internal.Shapes.{added}
@@ -53,6 +53,9 @@ enum-told-6 c = search needs
 enum-told-7 : tie.Need-enum-told-7
 enum-told-7 c = search needs
 
+enum-told-8 : tie.Need-enum-told-8
+enum-told-8 c = search needs
+
 returns-4 : tie.Need-returns-4
 unfolding added advanced phaseAfter sameKind kindNumber
 returns-4 c =
@@ -66,8 +69,8 @@ returns-4 c =
 returns-5 : tie.Need-returns-5
 unfolding added advanced phaseAfter sameKind kindNumber
 returns-5 c =
-    let begin = c .before .before .before .before in
-    rw (c .before .before .enum-told5 .given .1) (record {
+    let begin = c .before .before .before .before .before .before in
+    rw (c .before .before .before .before .enum-told5 .given .1) (record {
       state = simp add-zero;
       limits = other-limits _ _ (begin .args .size) (begin .args .parts) (begin .pre .0) Open refl refl refl;
       fitting = open-space _ _ (begin .args .size) (begin .args .parts) (begin .pre .0);
@@ -76,8 +79,8 @@ returns-5 c =
 returns-6 : tie.Need-returns-6
 unfolding added advanced phaseAfter sameKind kindNumber
 returns-6 c =
-    let begin = c .before .before .before .before .before .before in
-    rw (c .before .before .before .before .enum-told6 .given .1) (record {
+    let begin = c .before .before .before .before .before .before .before .before in
+    rw (c .before .before .before .before .before .before .enum-told6 .given .1) (record {
       state = simp add-zero;
       limits = other-limits _ _ (begin .args .size) (begin .args .parts) (begin .pre .0) Claim refl refl refl;
       fitting = claim-space _ _ (begin .args .size) (begin .args .parts) (begin .pre .0);
@@ -88,6 +91,16 @@ unfolding added advanced phaseAfter sameKind kindNumber
 returns-7 c =
     let begin = c .before .before in
     rw (c .enum-told7 .given .1) (record {
+      state = simp add-zero;
+      limits = other-limits _ _ (begin .args .size) (begin .args .parts) (begin .pre .0) Defined refl refl refl;
+      fitting = other-space _ _ (begin .args .size) (begin .args .parts) (begin .pre .0) Defined refl refl refl refl refl;
+    })
+
+returns-8 : tie.Need-returns-8
+unfolding added advanced phaseAfter sameKind kindNumber
+returns-8 c =
+    let begin = c .before .before in
+    rw (c .enum-told8 .given .1) (record {
       state = simp add-zero;
       limits = other-limits _ _ (begin .args .size) (begin .args .parts) (begin .pre .0) Unknown refl refl refl;
       fitting = other-space _ _ (begin .args .size) (begin .args .parts) (begin .pre .0) Unknown refl refl refl refl refl;
@@ -110,7 +123,9 @@ count-spec =
     enum-told-5
     enum-told-6
     enum-told-7
+    enum-told-8
     returns-4
     returns-5
     returns-6
-    returns-7)
+    returns-7
+    returns-8)

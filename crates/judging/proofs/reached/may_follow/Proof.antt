@@ -41,6 +41,9 @@ between-requires-5 c κs = search needs
 enum-told-7 : tie.Need-enum-told-7
 enum-told-7 c = search needs
 
+enum-told-8 : tie.Need-enum-told-8
+enum-told-8 c = search needs
+
 returns : tie.Need-returns
 unfolding mayFollow
 returns c = rw (c .enum-told .given .1)
@@ -69,6 +72,10 @@ returns-7 : tie.Need-returns-7
 unfolding mayFollow
 returns-7 c = rw (c .enum-told7 .given .1)
 
+returns-8 : tie.Need-returns-8
+unfolding mayFollow
+returns-8 c = rw (c .enum-told8 .given .1)
+
 pub may-follow-spec : {M : Type 1} → statement M
 may-follow-spec =
     tie.close
@@ -85,10 +92,12 @@ may-follow-spec =
     enum-told-6
     between-requires-5
     enum-told-7
+    enum-told-8
     returns
     returns-2
     returns-3
     returns-4
     returns-5
     returns-6
-    returns-7)
+    returns-7
+    returns-8)

@@ -8,7 +8,7 @@ use types.Run.{OneOf, miss}
 use denote.Enum.Declared.{tagOf}
 use borrow.Author.Needs.{needs}
 use Rattle.format.specs.declared.kinds.Kind.{Kind}
-use Rattle.format.specs.declared.kinds.Kind.the-variants.{Atoms, Rule, Clause, Load, Open, Claim, Unknown}
+use Rattle.format.specs.declared.kinds.Kind.the-variants.{Atoms, Rule, Clause, Load, Open, Claim, Defined, Unknown}
 use Rattle.format.specs.Views.{kindNumber, sameKind}
 use Rattle.format.proofs.kinds.Kind.{the-type}
 use Rattle.judging.specs.declared.reached.Reached.{Reached}
@@ -24,14 +24,15 @@ unfolding orderOf sameKind kindNumber
 returns c = rw (c .before .enum-told .given .1)
 
 -- the kinds that the last arm takes, by their places among the kinds
-others : (s : Reached) (k : Kind) (parts : ℕ) (rising : Bool) → OneOf (0 ∷ 1 ∷ 2 ∷ 3 ∷ 4 ∷ 6 ∷ []) (tagOf the-type k) → rising ≡ orderOf s k parts rising
+others : (s : Reached) (k : Kind) (parts : ℕ) (rising : Bool) → OneOf (0 ∷ 1 ∷ 2 ∷ 3 ∷ 4 ∷ 6 ∷ 7 ∷ []) (tagOf the-type k) → rising ≡ orderOf s k parts rising
 unfolding orderOf sameKind kindNumber
 others s Atoms parts rising o = sym (and-true rising)
 others s Rule parts rising o = sym (and-true rising)
 others s Clause parts rising o = sym (and-true rising)
 others s Load parts rising o = sym (and-true rising)
 others s Open parts rising o = sym (and-true rising)
-others s Claim parts rising o = absurd (miss (0 ∷ 1 ∷ 2 ∷ 3 ∷ 4 ∷ 6 ∷ []) 5 tt o)
+others s Claim parts rising o = absurd (miss (0 ∷ 1 ∷ 2 ∷ 3 ∷ 4 ∷ 6 ∷ 7 ∷ []) 5 tt o)
+others s Defined parts rising o = sym (and-true rising)
 others s Unknown parts rising o = sym (and-true rising)
 
 returns-2 : tie.Need-returns-2

@@ -1,43 +1,43 @@
--- What the marks of the heads tell, and what the claim's faults may rely on where the tables have none.
+-- What the marks of the defined atoms tell, and what the claim's faults may rely on where the tables have none.
 -- Assumes nothing.
 use Prim.Native.Nat.{ℕ, _≤_}
 use mathlib.Core.Path.{_≡_, refl, sym, _∙_}
 use mathlib.Core.List.{List, List·Memᴰ}
-use lib.ListN.{length, replicate, length-replicate}
+use lib.ListN.{length}
 use Rattle.wellfounded.specs.Lists.{count}
 use Rattle.wellfounded.specs.Definitions.{Definition, definedCount}
 use Rattle.wellfounded.proofs.Lists.{count-same}
 use Rattle.tables.specs.Faults.{Test, Absent}
 use Rattle.tables.specs.Limits.{maxAtoms}
-use Rattle.tables.specs.Rows.{headsRule, definitionOf}
+use Rattle.tables.specs.Rows.{definitionOf}
 use Rattle.tables.specs.Sound.{Tables, tableTests}
 use Rattle.tables.specs.internal.Scans.{ClausesScannable, LoadsScannable}
-use Rattle.tables.specs.internal.Marks.{isMarked, markWhere}
+use Rattle.tables.specs.internal.Marks.{isMarked}
+use Rattle.tables.specs.internal.Marks.{TellsDefined}
 use Rattle.tables.proofs.SoundTables.{sound-sizes, sound-rules, sound-clauses, sound-loads}
-use Rattle.tables.proofs.MarkLaws.{mark-length}
-use Rattle.tables.proofs.RowLaws.{heads-tell}
+use Rattle.tables.proofs.RowLaws.{defined-tell}
 use Rattle.checker.specs.internal.Scans.{Readable, Levelled}
 
--- The marks of the heads tell who is defined,
-pub heads-readable :
-    (rules literals values levels defined : List ℕ) → length values ≤ maxAtoms →
-    defined ≡ markWhere (headsRule rules) (replicate maxAtoms 0) →
-    length levels ≡ length values → Readable (definitionOf (length values) rules literals) defined values levels
+-- The marks tell who is defined,
+pub defined-readable :
+    (rules literals marks values levels defined : List ℕ) → length values ≤ maxAtoms → length marks ≡ length values →
+    TellsDefined rules marks maxAtoms defined → length levels ≡ length values →
+    Readable (definitionOf (length values) rules literals marks) defined values levels
 unfolding definitionOf
-heads-readable rules literals values levels defined few is levelled =
+defined-readable rules literals marks values levels defined few many is levelled =
     record {
-      room = rw (is, mark-length, length-replicate) few;
-      tells = heads-tell (length values) maxAtoms rules literals defined few is;
+      room = rw (is .long) few;
+      tells = defined-tell (length values) rules literals marks many is;
       valued = refl;
       levelled = levelled;
     }
 
 -- and their number is D.
-pub heads-count :
+pub defined-count :
     {d : Definition} {defined values levels : List ℕ} → Readable d defined values levels →
     definedCount d ≡ count (length values) (isMarked defined)
 unfolding definedCount
-heads-count {d} readable = rw (readable .valued) (count-same (d .size) _ _ (λ atom l. sym (readable .tells atom l)))
+defined-count {d} readable = rw (readable .valued) (count-same (d .size) _ _ (λ atom l. sym (readable .tells atom l)))
 
 -- What the claim's faults may rely on where the tables have no fault and the slices are N long.
 pub claim-ready :
