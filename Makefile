@@ -1,6 +1,7 @@
 # make run [BOOK=file]         the report of a book; the first run proves all that the program is made of
 # make lib                     the library, static and shared, and its header, in build/
 # make all                     the same and the programs battenplum and battenplum-check
+# make examples                the examples in C, build/display and build/edit
 # make install [PREFIX=dir]    programs, library, header, pkg-config file, manual pages and documents; DESTDIR=dir stages them
 # make uninstall [PREFIX=dir]  removes what was installed
 # make test                    proves everything from nothing and runs all tests
@@ -20,7 +21,7 @@ SHARED = libbattenplum.so.$(VERSION)
 # Through the environment, so that names with spaces arrive whole.
 export BOOK PREFIX DESTDIR CC
 
-.PHONY: run lib all install uninstall cross bench test clean help cargo
+.PHONY: run lib all examples install uninstall cross bench test clean help cargo
 # Two runs of `rt` at a time would spoil each other's files.
 .NOTPARALLEL:
 
@@ -62,6 +63,12 @@ build/battenplum-check: $(wildcard frontend/*.c frontend/*.h) include/battenplum
 	@tools/need cc
 	@$(CC) -std=c99 -Wall -Wextra -Wconversion -pedantic -Iinclude $(CPPFLAGS) $(CFLAGS) $(LDFLAGS) \
 	  $(filter %.c %.a,$^) $(LDLIBS) -o $@.$$$$ && mv $@.$$$$ $@
+
+examples: build/display build/edit
+
+build/display build/edit: build/%: examples/%.c include/battenplum.h build/libbattenplum.a
+	@tools/need cc
+	@$(CC) -Wall -Wextra -Iinclude $(CPPFLAGS) $(CFLAGS) $(LDFLAGS) $(filter %.c %.a,$^) $(LDLIBS) -o $@.$$$$ && mv $@.$$$$ $@
 
 install: all
 	@tools/install

@@ -1,4 +1,4 @@
-/* Battenplum: reads dispatch books, checks claims on them and works out claims.
+/* Battenplum: reads dispatch books, checks claims on them, works out claims and writes books back as text.
  *
  * The functions keep nothing between calls and allocate nothing. Any thread may call them at any time.
  * battenplum(3) is the manual page of these calls; battenplum-book(5) describes the text of a book, and claims.
@@ -12,7 +12,7 @@
  *
  * Verdicts. A verdict is a number and a position, packed as number * 65536 + position. 0 means accepted. Of several faults the first is
  * reported: for 1 to 4 the first bad line, with its lowest number, and otherwise the first in the order of the numbers below, where 31
- * stands between 17 and 21, at its lowest position.
+ * and 32 stand between 17 and 21, at its lowest position.
  *
  * Machines and stack. The library is built for x86-64 Linux. All work is done on the caller's stack: a thread needs about 96 KB
  * for battenplum_verdict and battenplum_report, and about 8 KB for the other calls.
@@ -25,8 +25,8 @@
 
 /* The version of this header. Before 1.0 each minor version may change the calls. */
 #define BATTENPLUM_VERSION_MAJOR 0
-#define BATTENPLUM_VERSION_MINOR 2
-#define BATTENPLUM_VERSION "0.2"
+#define BATTENPLUM_VERSION_MINOR 3
+#define BATTENPLUM_VERSION "0.3"
 
 /* For functions defined in this header: inline where the language has it, and no warning if unused. */
 #if defined(__cplusplus) || (defined(__STDC_VERSION__) && __STDC_VERSION__ >= 199901L)
@@ -41,7 +41,7 @@
 extern "C" {
 #endif
 
-/* The longest text of a book, in bytes, and the size of a page that holds every report. */
+/* The longest text of a book, in bytes, which is room for every text that is written, and the size of a page that holds every report. */
 #define BATTENPLUM_TEXT_MAX 65535
 #define BATTENPLUM_PAGE_SIZE 19487
 
@@ -53,7 +53,7 @@ extern "C" {
 #define BATTENPLUM_LOAD_ENTRIES 256    /* 64 rows: LO, HI, start, count */
 #define BATTENPLUM_TERMS 4096          /* load literals, and as many minutes */
 
-/* The number and the position of a verdict. Both also work on what battenplum_evaluate returns. */
+/* The number and the position of a verdict. Both also work on what battenplum_evaluate and battenplum_write return. */
 #define BATTENPLUM_NUMBER(verdict) ((uint32_t)(verdict) >> 16)
 #define BATTENPLUM_POSITION(verdict) ((uint32_t)(verdict) & 0xFFFFu)
 
@@ -76,6 +76,7 @@ enum {
     BATTENPLUM_BAD_TERM = 16,       /* the place in `load_literals` and `minutes` */
     BATTENPLUM_BAD_LENGTH = 17,     /* 0 */
     BATTENPLUM_BAD_MARK = 31,       /* the atom, or 0 if `marks` is not n long */
+    BATTENPLUM_TEXT_SIZE = 32,      /* battenplum_write alone: 0 */
 
     /* The claim, or the open values. */
     BATTENPLUM_BAD_VALUE = 21,   /* the atom */
@@ -105,6 +106,7 @@ BATTENPLUM_INLINE const char *battenplum_message(uint32_t number) {
     case BATTENPLUM_BAD_TERM: return "a load line names an atom that the book does not have, or its minutes are out of range";
     case BATTENPLUM_BAD_LENGTH: return "an array other than marks does not have one entry for each atom";
     case BATTENPLUM_BAD_MARK: return "a mark is not 0 or 1, or there is not one mark for each atom";
+    case BATTENPLUM_TEXT_SIZE: return "the text does not fit into the buffer, or is larger than the text of a book may be";
     case BATTENPLUM_BAD_VALUE: return "a value is not 0 or 1, or a defined atom is set from outside";
     case BATTENPLUM_BAD_LEVEL: return "a level is out of range";
     case BATTENPLUM_UNSUPPORTED: return "a true atom has no rule that makes it true";
@@ -161,6 +163,33 @@ uint64_t battenplum_evaluate(size_t n,
 /* The rounds in what battenplum_evaluate returns. */
 BATTENPLUM_INLINE uint32_t battenplum_rounds(uint64_t evaluated) { return (uint32_t)(evaluated >> 32); }
 
+/* Writes the text of a book with its claim at the front of `text` and returns its length * 2^32 + the verdict. So an accepted call does not
+ * return 0: look at BATTENPLUM_NUMBER. There is no null byte behind the text, and the bytes there keep what they held.
+ * The lines are (atoms N); (defined ...) with every marked atom, if there is one; the rows of `rules`, `clauses` and `loads`, each in its
+ * order; and (claim ...) with `values` and `levels` as they stand: the claim is not judged, so the numbers 21 to 27 do not occur.
+ * A text that ended with (open ...) has left no levels, and a claim may be wrong for a book that was changed since. Then first call
+ * battenplum_evaluate, with 0 for each defined atom in `open_values`, and if its number is 0 write what it made.
+ * battenplum_read reads the text back as the same book and claim. And a text that ends with a claim, read by it, is written back byte for
+ * byte, unless it is refused here with 12, 15 or 16 for an atom that is not below N.
+ * Faults are looked for in the order 11 to 17, 31, 32. `values` and `levels` must each be exactly n long (else 17). 32 means that text_len
+ * is less than the text needs, or that the text would be too large for a book: over BATTENPLUM_TEXT_MAX bytes, BATTENPLUM_LITERALS literals
+ * or BATTENPLUM_TERMS terms, where rows that share entries count them each time. If the call is refused, it writes nothing, and the length
+ * is 0. A buffer of BATTENPLUM_TEXT_MAX bytes is never too short: with one, 32 always means that the book is too large. */
+uint64_t battenplum_write(size_t n,
+                          const uint16_t *rules, size_t rules_len,
+                          const uint16_t *literals, size_t literals_len,
+                          const uint16_t *clauses, size_t clauses_len,
+                          const int32_t *loads, size_t loads_len,
+                          const uint16_t *load_literals, size_t load_literals_len,
+                          const int16_t *minutes, size_t minutes_len,
+                          const uint8_t *marks, size_t marks_len,
+                          const uint8_t *values, size_t values_len,
+                          const uint16_t *levels, size_t levels_len,
+                          uint8_t *text, size_t text_len);
+
+/* The length of the text in what battenplum_write returns. */
+BATTENPLUM_INLINE size_t battenplum_length(uint64_t written) { return (size_t)(written >> 32); }
+
 /* The places of `answer` of battenplum_read. All but the first and the last are entries, not rows. Of `marks` as many are in use as there
  * are atoms. */
 enum {
@@ -180,8 +209,8 @@ enum { BATTENPLUM_STATE_NONE = 0, BATTENPLUM_STATE_OPEN = 1, BATTENPLUM_STATE_CL
 /* What battenplum_read returns if `answer` does not have exactly seven places. No verdict is this number. */
 #define BATTENPLUM_NO_ANSWER 0xFFFFFFFFu
 
-/* Reads a text into tables, so that a book can be read once and many claims checked on it. Returns the verdict on the text alone; its number is
- * 0 to 4.
+/* Reads a text into tables, so that a book can be read once and many claims checked on it. Returns the verdict on the text alone; its
+ * number is 0 to 4.
  * If the text is accepted, each table has its entries at the front and keeps what it held behind them. `answer` receives N, how many
  * entries of each table are in use, and how the text ended. Pass those lengths on, not the room that the tables have. Every text writes N
  * marks (1 for each atom that a defined line names, else 0). An open line writes N values (1 for each atom that it names, else 0) and
@@ -200,9 +229,10 @@ uint32_t battenplum_read(const uint8_t *text, size_t text_len,
                          uint16_t *levels, size_t levels_len,
                          uint32_t *answer, size_t answer_len);
 
-/* The same calls with the tables in one struct. The lengths are those in use; marks_len is n. The wrappers below pass tables->n as the length
- * of every array that is not a table, so they cannot notice one that is shorter. A program that assigns the fields one by one must set all of
- * them, marks and marks_len too: a field that is left unset holds anything, and what the calls do is then undefined. */
+/* The same calls with the tables in one struct. The lengths are those in use; marks_len is n. The wrappers below pass tables->n as the
+ * length of every array that is neither a table nor a text, so they cannot notice one that is shorter. A program that assigns the fields
+ * one by one must set all of them, marks and marks_len too: a field that is left unset holds anything, and what the calls do is then
+ * undefined. */
 typedef struct battenplum_tables {
     size_t n;
     const uint16_t *rules;
@@ -235,7 +265,8 @@ typedef struct battenplum_storage {
 } battenplum_storage;
 
 /* battenplum_read into `storage`. `tables` then points to the parts of it in use, and `state` says how the text ended. For a refused text
- * `tables` has no atoms and no entries. The calls below accept such an empty book, so look at this verdict first. The number 4 does not occur. */
+ * `tables` has no atoms and no entries. The calls below accept such an empty book, and battenplum_write_tables writes it, as (atoms 0) and
+ * (claim). So look at this verdict first. The number 4 does not occur. */
 BATTENPLUM_INLINE uint32_t battenplum_read_tables(const uint8_t *text, size_t text_len, battenplum_storage *storage,
                                                   battenplum_tables *tables, uint32_t *state) {
     uint32_t answer[BATTENPLUM_ANSWER_PLACES];
@@ -298,6 +329,22 @@ BATTENPLUM_INLINE uint64_t battenplum_evaluate_tables(const battenplum_tables *t
                                values, tables->n,
                                levels, tables->n,
                                work, tables->n);
+}
+
+/* battenplum_write. `values` and `levels` have tables->n entries each, `text` has text_len bytes. */
+BATTENPLUM_INLINE uint64_t battenplum_write_tables(const battenplum_tables *tables, const uint8_t *values, const uint16_t *levels,
+                                                   uint8_t *text, size_t text_len) {
+    return battenplum_write(tables->n,
+                            tables->rules, tables->rules_len,
+                            tables->literals, tables->literals_len,
+                            tables->clauses, tables->clauses_len,
+                            tables->loads, tables->loads_len,
+                            tables->load_literals, tables->load_literals_len,
+                            tables->minutes, tables->minutes_len,
+                            tables->marks, tables->marks_len,
+                            values, tables->n,
+                            levels, tables->n,
+                            text, text_len);
 }
 
 #ifdef __cplusplus

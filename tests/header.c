@@ -1,7 +1,8 @@
 /* header FILE...: uses all that battenplum.h has, in words that C89 and C++ share, on texts that end in a verdict of their own.
  *
  * Every text is read into tables, by the struct and by the plain call. Open facts are evaluated and what comes out is checked; a claim
- * is checked. Both must come to the verdict on the text. Prints how many claims were made and accepted.
+ * is checked. Both must come to the verdict on the text. Either claim is written back with the book, and what was written is read again.
+ * Prints how many claims were made and accepted.
  */
 #include <stdio.h>
 #include <string.h>
@@ -12,6 +13,7 @@ static uint8_t text[BATTENPLUM_TEXT_MAX + 1], page[BATTENPLUM_PAGE_SIZE];
 static battenplum_storage room, again;
 static uint8_t values[BATTENPLUM_ATOMS], plain_values[BATTENPLUM_ATOMS], marks[BATTENPLUM_ATOMS + 1];
 static uint16_t levels[BATTENPLUM_ATOMS], work[BATTENPLUM_ATOMS];
+static uint8_t written[BATTENPLUM_TEXT_MAX + 2];
 
 static const char *file_name = "(no file)";
 static int faults = 0;
@@ -29,8 +31,9 @@ static void constants(void) {
         BATTENPLUM_ACCEPTED,       BATTENPLUM_MALFORMED,       BATTENPLUM_OUTSIDE_LIMITS, BATTENPLUM_OUT_OF_ORDER,
         BATTENPLUM_NO_SPACE,       BATTENPLUM_BAD_SIZES,       BATTENPLUM_BAD_RULE_ROW,   BATTENPLUM_BAD_CLAUSE_ROW,
         BATTENPLUM_BAD_LOAD_ROW,   BATTENPLUM_BAD_LITERAL,     BATTENPLUM_BAD_TERM,       BATTENPLUM_BAD_LENGTH,
-        BATTENPLUM_BAD_MARK,       BATTENPLUM_BAD_VALUE,       BATTENPLUM_BAD_LEVEL,      BATTENPLUM_UNSUPPORTED,
-        BATTENPLUM_UNBLOCKED,      BATTENPLUM_UNDECIDED,       BATTENPLUM_FAILING_CLAUSE, BATTENPLUM_FAILING_LOAD};
+        BATTENPLUM_BAD_MARK,       BATTENPLUM_TEXT_SIZE,       BATTENPLUM_BAD_VALUE,      BATTENPLUM_BAD_LEVEL,
+        BATTENPLUM_UNSUPPORTED,    BATTENPLUM_UNBLOCKED,       BATTENPLUM_UNDECIDED,      BATTENPLUM_FAILING_CLAUSE,
+        BATTENPLUM_FAILING_LOAD};
     const size_t count = sizeof numbers / sizeof numbers[0];
     char version[32];
     size_t i, j;
@@ -43,6 +46,7 @@ static void constants(void) {
     }
     hold(BATTENPLUM_NUMBER(0x001B0102u) == BATTENPLUM_FAILING_LOAD && BATTENPLUM_POSITION(0x001B0102u) == 0x0102, "a verdict is taken apart wrongly");
     hold(battenplum_rounds((uint64_t)7 << 32 | 0x00190001u) == 7, "rounds are taken out wrongly");
+    hold(battenplum_length((uint64_t)BATTENPLUM_TEXT_MAX << 32) == BATTENPLUM_TEXT_MAX, "a length is taken out wrongly");
     hold(sizeof room.loads == BATTENPLUM_LOAD_ENTRIES * sizeof(int32_t) && sizeof room.rules == BATTENPLUM_RULE_ENTRIES * sizeof(uint16_t)
              && sizeof room.literals == BATTENPLUM_LITERALS * sizeof(uint16_t) && sizeof room.clauses == BATTENPLUM_CLAUSE_ENTRIES * sizeof(uint16_t)
              && sizeof room.load_literals == BATTENPLUM_TERMS * sizeof(uint16_t) && sizeof room.minutes == BATTENPLUM_TERMS * sizeof(int16_t)
@@ -122,6 +126,172 @@ static void bad_marks(const battenplum_tables *book) {
          "a mark of 2 comes before levels that are too short");
 }
 
+/* The call below the struct, with so many levels and so many bytes for the text. */
+static uint64_t plain_write(const battenplum_tables *book, const uint8_t *claimed, const uint16_t *at, size_t at_len, size_t text_room) {
+    memset(written, 0xAA, sizeof written);
+    return battenplum_write(book->n, book->rules, book->rules_len, book->literals, book->literals_len, book->clauses, book->clauses_len,
+                            book->loads, book->loads_len, book->load_literals, book->load_literals_len, book->minutes, book->minutes_len,
+                            book->marks, book->marks_len, claimed, book->n, at, at_len, written, text_room);
+}
+
+static int untouched_from(size_t i) {
+    while (i < sizeof written && written[i] == 0xAA) i++;
+    return i == sizeof written;
+}
+
+/* What was written last, `length` bytes, reads as this book and claim. */
+static int reads_as(size_t length, const battenplum_tables *book, const uint8_t *claimed, const uint16_t *at) {
+    battenplum_tables back;
+    uint32_t state;
+
+    if (battenplum_read_tables(written, length, &again, &back, &state) != BATTENPLUM_ACCEPTED) return 0;
+    return state == BATTENPLUM_STATE_CLAIM && back.n == book->n && back.rules_len == book->rules_len && back.literals_len == book->literals_len
+           && back.clauses_len == book->clauses_len && back.loads_len == book->loads_len && back.load_literals_len == book->load_literals_len
+           && memcmp(back.rules, book->rules, back.rules_len * sizeof(uint16_t)) == 0
+           && memcmp(back.literals, book->literals, back.literals_len * sizeof(uint16_t)) == 0
+           && memcmp(back.clauses, book->clauses, back.clauses_len * sizeof(uint16_t)) == 0
+           && memcmp(back.loads, book->loads, back.loads_len * sizeof(int32_t)) == 0
+           && memcmp(back.load_literals, book->load_literals, back.load_literals_len * sizeof(uint16_t)) == 0
+           && memcmp(back.minutes, book->minutes, back.minutes_len * sizeof(int16_t)) == 0 && memcmp(back.marks, book->marks, back.n) == 0
+           && memcmp(again.values, claimed, back.n) == 0 && memcmp(again.levels, at, back.n * sizeof(uint16_t)) == 0;
+}
+
+/* A book that was read, written back with a claim: into more than enough bytes, just enough, one too few and none. Returns the length. */
+static size_t write_back(const battenplum_tables *book, const uint8_t *claimed, const uint16_t *at) {
+    const uint32_t too_short = (uint32_t)BATTENPLUM_TEXT_SIZE << 16;
+    uint64_t answer;
+    size_t length;
+
+    memset(written, 0xAA, sizeof written);
+    answer = battenplum_write_tables(book, claimed, at, written, sizeof written);
+    length = battenplum_length(answer);
+    hold((uint32_t)answer == BATTENPLUM_ACCEPTED && length > 0 && length <= BATTENPLUM_TEXT_MAX, "the book is not written");
+    if (length == 0) return 0;
+    hold(untouched_from(length), "bytes behind the text are written");
+    hold(reads_as(length, book, claimed, at), "what was written is not read as it was");
+    hold(plain_write(book, claimed, at, book->n, length - 1) == too_short, "a buffer one byte too short is not refused");
+    hold(untouched_from(0), "a buffer one byte too short is written to");
+    hold(battenplum_write_tables(book, claimed, at, NULL, 0) == too_short, "a null buffer is not refused");
+    hold(plain_write(book, claimed, at, book->n, length) == answer && untouched_from(length), "a buffer of just the length is not enough");
+    hold(reads_as(length, book, claimed, at), "the plain call writes otherwise");
+    return length;
+}
+
+/* 17 comes before 31 and 31 before 32, and the buffer is left alone. */
+static void bad_writes(const battenplum_tables *book, const uint8_t *claimed, const uint16_t *at) {
+    const uint32_t bad_mark = (uint32_t)BATTENPLUM_BAD_MARK << 16 | (uint32_t)(book->n - 1);
+    battenplum_tables bad = *book;
+
+    memcpy(marks, book->marks, book->n);
+    marks[book->n - 1] = 2;
+    bad.marks = marks;
+    hold(plain_write(&bad, claimed, at, bad.n - 1, 0) == (uint32_t)BATTENPLUM_BAD_LENGTH << 16, "levels that are too short are written");
+    hold(plain_write(&bad, claimed, at, bad.n, 0) == bad_mark, "a buffer without room comes before a mark of 2");
+    hold(plain_write(&bad, claimed, at, bad.n, sizeof written) == bad_mark && untouched_from(0), "a book with a mark of 2 is written");
+}
+
+/* The claim as the text has it gives the text's bytes; values and levels that no check would pass are written too. */
+static void written_claims(size_t length, const battenplum_tables *book) {
+    size_t i;
+
+    hold(write_back(book, room.values, room.levels) == length && memcmp(written, text, length) == 0, "the text is not written as it was");
+    bad_writes(book, room.values, room.levels);
+    for (i = 0; i < book->n; i++) {
+        values[i] = (uint8_t)(255 - i);
+        levels[i] = (uint16_t)(65535 - i);
+    }
+    write_back(book, values, levels);
+}
+
+/* A made claim: the lines before the open facts are written as they were, and the whole is accepted. */
+static void written_made(size_t length, const battenplum_tables *book) {
+    const size_t written_length = write_back(book, values, levels);
+    size_t last_line = length - 1;
+
+    while (last_line > 0 && text[last_line - 1] != '\n') last_line--;
+    hold(memcmp(written, text, last_line) == 0 && memcmp(written + last_line, "(claim ", 7) == 0, "the book's lines are not written as they were");
+    hold(battenplum_verdict(written, written_length) == BATTENPLUM_ACCEPTED, "the made claim is not accepted as a text");
+    bad_writes(book, values, levels);
+}
+
+/* Whether a book of one atom, claimed at this level, is written as a text of this length; or, for 0, refused with 32 and not written. */
+static int has_length(const battenplum_tables *book, uint16_t level, size_t length) {
+    const uint64_t answer = plain_write(book, values, &level, book->n, sizeof written);
+
+    return answer == (length == 0 ? (uint64_t)BATTENPLUM_TEXT_SIZE << 16 : (uint64_t)length << 32) && untouched_from(length);
+}
+
+/* The largest texts, and one literal, one term and one byte more. Rows share their entries, which are counted for each row. */
+static void largest(void) {
+    static const char small[] = "(atoms 1)\n(claim (0 0))\n";
+    const size_t length = sizeof small - 1, two_rules = 2 * 9, two_loads = 2 * 11;
+    uint16_t rules[6] = {0, 0, BATTENPLUM_LITERALS - 1, 0, 7, 1};
+    int32_t loads[8] = {0, 0, 0, BATTENPLUM_TERMS - 1, 0, 0, 9, 1};
+    battenplum_tables book;
+    uint32_t state;
+    size_t i;
+
+    file_name = "the largest texts";
+    memset(&room, 0, sizeof room);
+    values[0] = 0;
+    hold(battenplum_read_tables((const uint8_t *)small, length, &room, &book, &state) == BATTENPLUM_ACCEPTED, "two lines are not read");
+    hold(has_length(&book, 0, length), "two lines are not written");
+    book.loads = loads;
+    book.loads_len = 8;
+    book.load_literals_len = book.minutes_len = BATTENPLUM_TERMS;
+    hold(has_length(&book, 0, length + two_loads + 6 * BATTENPLUM_TERMS), "the most terms are not written");
+    loads[7]++;
+    hold(has_length(&book, 0, 0), "one term too many is written");
+    book.loads_len = 0;
+    book.rules = rules;
+    book.rules_len = 6;
+    book.literals_len = BATTENPLUM_LITERALS;
+    hold(has_length(&book, 0, length + two_rules + 2 * BATTENPLUM_LITERALS), "the most literals are not written");
+    rules[5]++;
+    hold(has_length(&book, 0, 0), "one literal too many is written");
+
+    /* 8,186 literals (not 0) of 8 bytes each, and 5 bytes more in the claim. */
+    rules[2] = 8184;
+    for (i = 0; i < BATTENPLUM_LITERALS; i++) room.literals[i] = 1;
+    values[0] = 255;
+    hold(has_length(&book, 9999, BATTENPLUM_TEXT_MAX), "the longest text is not written");
+    hold(has_length(&book, 10000, 0), "one byte too many is written");
+}
+
+/* A refused text leaves a book without atoms, which is written like any other. */
+static void nothing_read(void) {
+    static const char empty[] = "(atoms 0)\n(claim)\n";
+    battenplum_tables book;
+    uint32_t state;
+
+    file_name = "a refused text";
+    hold(battenplum_read_tables((const uint8_t *)empty, 3, &room, &book, &state) == (uint32_t)BATTENPLUM_MALFORMED << 16, "three bytes are read");
+    hold(state == BATTENPLUM_STATE_NONE, "a refused text has ended in a known way");
+    hold(write_back(&book, room.values, room.levels) == sizeof empty - 1 && memcmp(written, empty, sizeof empty - 1) == 0,
+         "a book without atoms is not written");
+}
+
+/* A right claim for a book that was changed: a rule struck and its head declared, an atom added, and all that is defined worked out again. */
+static void changed(void) {
+    static const char before[] = "(atoms 3)\n(rule 1)\n(rule 2 0 1)\n(claim (1 0) (1 1) (1 2))\n";
+    static const char after[] = "(atoms 4)\n(defined 1)\n(rule 2 0 1)\n(claim (1 0) (0 1) (0 1) (1 0))\n";
+    battenplum_tables book;
+    uint32_t state;
+
+    file_name = "a changed book";
+    hold(battenplum_read_tables((const uint8_t *)before, sizeof before - 1, &room, &book, &state) == BATTENPLUM_ACCEPTED, "it is not read");
+    book.rules += 3;
+    book.rules_len -= 3;
+    room.marks[1] = 1;
+    book.n = book.marks_len = 4;
+    room.marks[3] = 0;
+    room.values[3] = 1;
+    room.values[1] = room.values[2] = 0;
+    hold((uint32_t)battenplum_evaluate_tables(&book, room.values, values, levels, work) == BATTENPLUM_ACCEPTED, "no claim is made for it");
+    hold(write_back(&book, values, levels) == sizeof after - 1 && memcmp(written, after, sizeof after - 1) == 0, "it is written otherwise");
+    hold(battenplum_verdict(written, sizeof after - 1) == BATTENPLUM_ACCEPTED, "its claim is not right");
+}
+
 /* Returns 1 if a claim was made and accepted. */
 static int one_book(size_t length) {
     const uint32_t whole = battenplum_verdict(text, length);
@@ -143,6 +313,7 @@ static int one_book(size_t length) {
     hold(state != BATTENPLUM_STATE_NONE, "the text has neither open facts nor a claim");
     if (state == BATTENPLUM_STATE_CLAIM) {
         hold(battenplum_check_tables(&book, room.values, room.levels) == whole, "the claim's verdict is not the text's");
+        written_claims(length, &book);
         return 0;
     }
     hold(state == BATTENPLUM_STATE_OPEN, "the text ends in no known way");
@@ -164,16 +335,31 @@ static int one_book(size_t length) {
                           book.loads_len, book.load_literals, book.load_literals_len, book.minutes, book.minutes_len, book.marks,
                           book.marks_len, values, book.n, levels, book.n) == checked,
          "the plain call checks otherwise");
+    written_made(length, &book);
     values[0] = 2;
     hold(BATTENPLUM_NUMBER(battenplum_check_tables(&book, values, levels)) == BATTENPLUM_BAD_VALUE, "a claim with a value of 2 is accepted");
     bad_marks(&book);
     return 1;
 }
 
+/* Every form, with and without parts, the signs, and numbers that are read and not judged. */
+static void every_form(void) {
+    static const char all[] = "(atoms 3)\n(defined 0 2)\n(rule 1)\n(rule 1 0 (not 2))\n(clause)\n(clause (not 1) 1)\n(load -1000000 1000000)\n"
+                              "(load 0 -1 (-1440 0) (1440 (not 1)) (0 2) (-9 2))\n(claim (255 65535) (0 0) (10 100))\n";
+
+    file_name = "every form";
+    memcpy(text, all, sizeof all - 1);
+    one_book(sizeof all - 1);
+}
+
 int main(int argc, char **argv) {
     int i, accepted = 0;
 
     constants();
+    largest();
+    nothing_read();
+    changed();
+    every_form();
     for (i = 1; i < argc; i++) {
         FILE *file = fopen(argv[i], "rb");
         size_t length;

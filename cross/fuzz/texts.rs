@@ -4,7 +4,7 @@
 #![no_main]
 
 use cross::{
-    book::Lengths,
+    book::{Claim, Lengths, Read, State},
     calls::{Calls, PAGE_SIZE},
     differ::{
         books::Marking,
@@ -37,7 +37,8 @@ pub extern "C" fn LLVMFuzzerTestOneInput(bytes: *const u8, length: usize) -> i32
     0
 }
 
-/// The verdict, the report, the reading into tables of various lengths, and the check or the maker on what was read.
+/// The verdict, the report, the reading into tables of various lengths, the check or the maker on what was read, and both ways of
+/// writing it back.
 fn compare(library: &dyn Calls, text: &[u8]) -> Compared {
     let random = Random::new(text.iter().fold(0, |sum, &byte| sum * 31 % 1_000_003 + u64::from(byte)));
     let mut session = Session::new(Solver::default(), &[Side::Calls(library), Side::Calls(&Fast)], random, 1);
@@ -48,5 +49,16 @@ fn compare(library: &dyn Calls, text: &[u8]) -> Compared {
         let lent = lengths::about(&mut session.random, &read, Marking::Some);
         session.compare(Case::read(text, lent))?;
     }
-    session.what_was_read(&read)
+    session.what_was_read(&read)?;
+    write_back(&mut session, text, read)
+}
+
+/// What was read of a claim gives the text again. The tables of any book, with its values and any levels, are written and read back.
+fn write_back(session: &mut Session, text: &[u8], read: Read) -> Compared {
+    session.text_back(text)?;
+    if read.state == State::None {
+        return Ok(());
+    }
+    let levels = read.values.iter().map(|_| session.random.draw() as u16 >> session.random.below(16)).collect();
+    session.tables_back(&read.book, &Claim { values: read.values, levels })
 }

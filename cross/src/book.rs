@@ -109,3 +109,17 @@ pub struct Read {
     pub values: Vec<u8>,
     pub levels: Vec<u16>,
 }
+
+/// What the writer answers, and the bytes that it puts at the front of the buffer: none if it is refused.
+#[derive(Clone, PartialEq, Eq, Debug, Default)]
+pub struct BookText {
+    pub verdict: Verdict,
+    pub length: usize,
+    pub bytes: Vec<u8>,
+}
+
+impl BookText {
+    pub fn refused(verdict: Verdict) -> BookText {
+        BookText { verdict, ..BookText::default() }
+    }
+}

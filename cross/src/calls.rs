@@ -1,8 +1,8 @@
-//! The five calls on plain slices, as one trait: the C library is one implementation of it, `fast` the other.
+//! The six calls on plain slices, as one trait: the C library is one implementation of it, `fast` the other.
 
 use crate::book::Book;
 
-/// The tables that a check or an evaluation reads.
+/// The tables that a check, an evaluation or a writing reads.
 #[derive(Clone, Copy)]
 pub struct Tables<'a> {
     pub n: usize,
@@ -46,6 +46,9 @@ pub struct TablesToFill<'a> {
 /// `BATTENPLUM_PAGE_SIZE` of the header: such a page holds every report, and a shorter one is left as it is.
 pub const PAGE_SIZE: usize = 19_487;
 
+/// `BATTENPLUM_TEXT_MAX` of the header: the longest text that is read or written.
+pub const TEXT_MAX: usize = 65_535;
+
 /// What each answer means is in `include/battenplum.h`.
 pub trait Calls {
     fn name(&self) -> &'static str;
@@ -54,6 +57,7 @@ pub trait Calls {
     fn check(&self, tables: Tables, values: &[u8], levels: &[u16]) -> u32;
     fn evaluate(&self, tables: Tables, open_values: &[u8], values: &mut [u8], levels: &mut [u16], work: &mut [u16]) -> u64;
     fn read(&self, text: &[u8], tables: TablesToFill, answer: &mut [u32]) -> u32;
+    fn write(&self, tables: Tables, values: &[u8], levels: &[u16], text: &mut [u8]) -> u64;
 }
 
 /// `build/libbattenplum.a`.
@@ -107,6 +111,20 @@ mod c {
             levels: *mut u16, levels_len: usize,
             answer: *mut u32, answer_len: usize,
         ) -> u32;
+
+        pub fn battenplum_write(
+            n: usize,
+            rules: *const u16, rules_len: usize,
+            literals: *const u16, literals_len: usize,
+            clauses: *const u16, clauses_len: usize,
+            loads: *const i32, loads_len: usize,
+            load_literals: *const u16, load_literals_len: usize,
+            minutes: *const i16, minutes_len: usize,
+            marks: *const u8, marks_len: usize,
+            values: *const u8, values_len: usize,
+            levels: *const u16, levels_len: usize,
+            text: *mut u8, text_len: usize,
+        ) -> u64;
     }
 }
 
@@ -175,6 +193,23 @@ impl Calls for Library {
                 t.values.as_mut_ptr(), t.values.len(),
                 t.levels.as_mut_ptr(), t.levels.len(),
                 answer.as_mut_ptr(), answer.len(),
+            )
+        }
+    }
+    fn write(&self, t: Tables, values: &[u8], levels: &[u16], text: &mut [u8]) -> u64 {
+        unsafe {
+            c::battenplum_write(
+                t.n,
+                t.rules.as_ptr(), t.rules.len(),
+                t.literals.as_ptr(), t.literals.len(),
+                t.clauses.as_ptr(), t.clauses.len(),
+                t.loads.as_ptr(), t.loads.len(),
+                t.load_literals.as_ptr(), t.load_literals.len(),
+                t.minutes.as_ptr(), t.minutes.len(),
+                t.marks.as_ptr(), t.marks.len(),
+                values.as_ptr(), values.len(),
+                levels.as_ptr(), levels.len(),
+                text.as_mut_ptr(), text.len(),
             )
         }
     }

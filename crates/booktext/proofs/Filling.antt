@@ -175,7 +175,7 @@ module _ (space : Space) (fs : List Form) (book : IsBook space fs) where
       ∙ (ap length (last-levels space (ends .state) start (ends .before) passed) ∙ (levels-added s (ends .state) ordered ∙ ap levelsCounted (sym reached))))
 
 -- Lent tables have the room that their lengths say.
-room-held : (held : Contents) (table : Table) → roomIn (spaceOf held) table ≡ length (held table)
+pub room-held : (held : Contents) (table : Table) → roomIn (spaceOf held) table ≡ length (held table)
 unfolding spaceOf
 room-held held table = room-with (λ each. length (held each)) table
 

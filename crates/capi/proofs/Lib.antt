@@ -1,3 +1,4 @@
--- `Unpacking` says what the packed answers tell; `PackLaws` serves the functions.
+-- `Unpacking` says what the packed answers tell, `ForC` that the calls on texts are those of `read` and `write`; `PackLaws` serves the functions.
 pub mod Unpacking
+pub mod ForC
 pub mod PackLaws

@@ -7,6 +7,7 @@ use native.Mathlib.Omega.{arith}
 use lib.ListN.{length, set}
 use borrow.Author.Tests.{eq-eqb, ne-eqb}
 use Rattle.tables.specs.declared.Verdict.{Verdict}
+use Rattle.tables.specs.declared.Verdict.the-variants.{Accepted, Refused}
 use Rattle.tables.specs.Faults.{positionOf}
 use Rattle.tables.specs.Limits.{maxAtoms, maxPosition}
 use Rattle.tables.specs.Sound.{Tables}
@@ -15,7 +16,7 @@ use Rattle.evaluator.specs.Evaluate.{evaluateOf, Answers}
 use Rattle.judging.specs.declared.reached.Space.{Space}
 use Rattle.judging.specs.declared.reached.Judged.{Judged}
 use Rattle.judging.specs.declared.reached.Judged.the-variants.{Passed, Failed}
-use Rattle.judging.specs.Judging.{judgeText}
+use Rattle.judging.specs.Judging.{judgeText, maxBytes}
 use Rattle.judging.proofs.Counts.{CountsWithin, counts-within}
 use Rattle.judging.proofs.Accepted.{accepted-book, accepted-size}
 use Rattle.forms.specs.Contents.{Contents}
@@ -25,7 +26,12 @@ use Rattle.booktext.specs.declared.Book.{Book}
 use Rattle.booktext.specs.Answers.{spaceOf, stateNumber, answerOf, Reads}
 use Rattle.evaluator.proofs.Positions.{evaluate-position, evaluate-rounds}
 use Rattle.booktext.proofs.Positions.{text-position}
-use Rattle.capi.specs.Packing.{packed, packedRounds, countsOf, noAnswer, EvaluatedForC, sevenPlaces, ReadForC}
+use Rattle.writing.specs.declared.Written.{Written}
+use Rattle.writing.specs.BookForms.{textOf}
+use Rattle.writing.specs.Writing.{writeOf, writtenOf, Writes}
+use Rattle.writing.proofs.WriteLaws.{promised-as, verdict-as}
+use Rattle.writing.proofs.Theorems.{written-position, written-length}
+use Rattle.capi.specs.Packing.{packed, packedWith, countsOf, noAnswer, EvaluatedForC, sevenPlaces, ReadForC, WrittenForC}
 use Rattle.capi.specs.internal.Counts.{WithinBook}
 
 -- ── Packed verdicts ──
@@ -47,9 +53,27 @@ module _
   pub made-packed :
       (code : ℕ) → code ≡ packed verdict →
       EvaluatedForC (evaluateOf t setting values levels work) (rounds * 4294967296 + code) valuesAfter levelsAfter workAfter
-  unfolding packedRounds
+  unfolding packedWith
   made-packed code packs =
       record { answered = rw (packs, a .verdictIs, a .roundsIs); valuesIs = a .valuesIs; levelsIs = a .levelsIs; workIs = a .workIs }
+
+-- ── The writer ──
+
+module _
+    (t : Tables) (values levels before : List ℕ) {answer : Written} {afterwards : List ℕ}
+    (w : Writes t values levels before answer afterwards) where
+  told : answer .verdict ≡ writeOf t values levels (length before)
+  told = verdict-as (promised-as w)
+
+  -- Its length and its verdict's position are small.
+  pub written-small : (positionOf (answer .verdict) ≤ maxPosition) × (answer .length ≤ maxBytes)
+  written-small = (rw told (written-position t values levels (length before)), rw (w .answered) (written-length t values levels (length before)))
+
+  pub written-packed :
+      (code : ℕ) → code ≡ packed (answer .verdict) →
+      WrittenForC t values levels before (answer .length * 4294967296 + code) afterwards
+  unfolding packedWith
+  written-packed code packs = record { answered = rw (packs, told, w .answered); written = w .written }
 
 -- ── The reader's counts ──
 

@@ -19,7 +19,9 @@ use Rattle.booktext.specs.Answers.{answerOf}
 use Rattle.booktext.proofs.Positions.{text-position}
 use Rattle.outcome.specs.Outcomes.{outcomeOf}
 use Rattle.outcome.proofs.Bounds.{outcome-position}
-use Rattle.capi.specs.Packing.{packed, packedRounds, Unpacks}
+use Rattle.writing.specs.Writing.{writeOf}
+use Rattle.writing.proofs.Theorems.{written-position}
+use Rattle.capi.specs.Packing.{packed, packedWith, Unpacks}
 
 -- A verdict whose position has 16 bits unpacks,
 pub unpacks : (verdict : Verdict) → positionOf verdict ≤ maxPosition → Unpacks verdict
@@ -28,7 +30,7 @@ unpacks verdict l =
     let n = verdict-number verdict in
     record { number = omega arith; position = omega arith; answers = λ e. omega arith }
 
--- and so does the verdict of every call: of the check, the maker, a text and the reader.
+-- and so does the verdict of every call: of the check, the maker, a text, the reader and the writer.
 pub check-unpacks : (t : Tables) (values levels : List ℕ) → Unpacks (checkOf t values levels)
 check-unpacks t values levels = unpacks _ (check-position t values levels)
 
@@ -41,9 +43,12 @@ text-unpacks text = unpacks _ (outcome-position text)
 pub read-unpacks : (space : Space) (text : List ℕ) → Unpacks (answerOf (judgeText space text) .verdict)
 read-unpacks space text = unpacks _ (text-position space text)
 
--- The rounds stand above the packed verdict.
-pub rounds-unpack :
-    (verdict : Verdict) (rounds : ℕ) → positionOf verdict ≤ maxPosition →
-    (packedRounds verdict rounds / 4294967296 ≡ rounds) × (packedRounds verdict rounds % 4294967296 ≡ packed verdict)
-unfolding packedRounds packed
-rounds-unpack verdict rounds l = let n = verdict-number verdict in (omega arith, omega arith)
+pub write-unpacks : (t : Tables) (values levels : List ℕ) (room : ℕ) → Unpacks (writeOf t values levels room)
+write-unpacks t values levels room = unpacks _ (written-position t values levels room)
+
+-- The rounds, and the length, stand above the packed verdict.
+pub count-unpacks :
+    (verdict : Verdict) (count : ℕ) → positionOf verdict ≤ maxPosition →
+    (packedWith verdict count / 4294967296 ≡ count) × (packedWith verdict count % 4294967296 ≡ packed verdict)
+unfolding packedWith packed
+count-unpacks verdict count l = let n = verdict-number verdict in (omega arith, omega arith)

@@ -7,19 +7,22 @@ use lib.Dec.{eqb}
 use lib.ListN.{length}
 use Rattle.tables.specs.declared.Verdict.{Verdict}
 use Rattle.tables.specs.Faults.{numberOf, positionOf}
+use Rattle.tables.specs.Sound.{Tables}
 use Rattle.judging.specs.Judging.{formsOf, judgeText}
 use Rattle.forms.specs.Contents.{Contents}
 use Rattle.booktext.specs.declared.Book.{Book}
 use Rattle.booktext.specs.Answers.{stateNumber, answerOf, spaceOf, contentsAfter}
 use Rattle.evaluator.specs.Evaluate.{Evaluation}
+use Rattle.writing.specs.BookForms.{textOf}
+use Rattle.writing.specs.Writing.{writeOf, writtenOf, bufferAfter}
 
 -- The verdict's number × 65,536 + its position; 0 if accepted.
 unfoldable pub packed : Verdict → ℕ
 packed verdict = numberOf verdict * 65536 + positionOf verdict
 
--- The rounds above it.
-unfoldable pub packedRounds : Verdict → ℕ → ℕ
-packedRounds verdict rounds = rounds * 4294967296 + packed verdict
+-- A count above it: the maker's rounds, the writer's length.
+unfoldable pub packedWith : Verdict → ℕ → ℕ
+packedWith verdict count = count * 4294967296 + packed verdict
 
 -- What the reader counted: N, the entries of rules, literals, clauses, loads and terms, and the number of the state form.
 unfoldable pub countsOf : Book → List ℕ
@@ -32,7 +35,7 @@ noAnswer = 4294967295
 
 -- What the maker's call promises: its answer, and the three slices afterwards.
 pub record EvaluatedForC (e : Evaluation) (answer : ℕ) (values levels work : List ℕ) : Type 0 where
-  pub answered : answer ≡ packedRounds (e .verdict) (e .rounds)
+  pub answered : answer ≡ packedWith (e .verdict) (e .rounds)
   pub valuesIs : values ≡ e .values
   pub levelsIs : levels ≡ e .levels
   pub workIs : work ≡ e .work
@@ -46,6 +49,12 @@ pub record ReadForC
   pub answered : code ≡ cond (sevenPlaces answer) (packed (answerOf (judgeText (spaceOf before) text) .verdict)) noAnswer
   pub counts : answerAfter ≡ cond (sevenPlaces answer) (countsOf (answerOf (judgeText (spaceOf before) text))) answer
   pub written : afterwards ≡ cond (sevenPlaces answer) (contentsAfter (judgeText (spaceOf before) text) (formsOf text) before) before
+
+-- What the writer's call promises: its answer, and the buffer afterwards.
+pub record WrittenForC (t : Tables) (values levels before : List ℕ) (answer : ℕ) (afterwards : List ℕ) : Type 0 where
+  pub answered :
+      answer ≡ packedWith (writeOf t values levels (length before)) (writtenOf (writeOf t values levels (length before)) (textOf t values levels) .length)
+  pub written : afterwards ≡ bufferAfter (writeOf t values levels (length before)) (textOf t values levels) before
 
 -- What a packed verdict tells: the verdict's number and position, and that it is an answer.
 pub record Unpacks (verdict : Verdict) : Type 0 where

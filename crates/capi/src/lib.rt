@@ -10,7 +10,7 @@ ghost use Rattle.evaluator.specs.Evaluate.{evaluateOf};
 ghost use Rattle.forms.specs.Contents.{lentTables};
 ghost use Rattle.outcome.specs.Outcomes.{outcomeOf};
 ghost use Rattle.report.specs.Reports.{Reported};
-ghost use Rattle.capi.specs.Packing.{packed, countsOf, EvaluatedForC, ReadForC};
+ghost use Rattle.capi.specs.Packing.{packed, countsOf, EvaluatedForC, ReadForC, WrittenForC};
 ghost use Rattle.capi.specs.internal.Counts.{WithinBook};
 use booktext::Book;
 use booktext::read;
@@ -23,6 +23,7 @@ use tables::Verdict;
 use tables::number_of;
 use tables::position_of;
 use tables::sizes::MAX_ATOMS;
+use writing::write;
 
 // Answered where the counts have not seven places; no verdict packs to it.
 const NO_ANSWER: u32 = 4_294_967_295;
@@ -125,6 +126,43 @@ pub extern "C" fn battenplum_evaluate(
     );
     let verdict = answer.verdict;
     answer.rounds as u64 * 4_294_967_296 + pack(verdict) as u64
+}
+
+// The writer on lent tables and a claim: the text's length × 2^32 above the packed verdict.
+#[no_mangle]
+pub extern "C" fn battenplum_write(
+    n: usize,
+    rules: &[u16],
+    literals: &[u16],
+    clauses: &[u16],
+    loads: &[i32],
+    load_literals: &[u16],
+    minutes: &[i16],
+    marks: &[u8],
+    values: &[u8],
+    levels: &[u16],
+    text: &mut [u8],
+) -> u64
+    ensures { λ r. ⌜ WrittenForC
+        (lent n (now (rules .entry)) (now (literals .entry)) (now (clauses .entry)) (now (loads .entry)) (now («load_literals» .entry))
+        (now (minutes .entry)) (now (marks .entry)))
+        (now (values .entry)) (now (levels .entry)) (now (text .entry)) r (now (text .exit)) ⌝ }
+{
+    let answer = write(
+        n,
+        rules,
+        literals,
+        clauses,
+        loads,
+        load_literals,
+        minutes,
+        marks,
+        values,
+        levels,
+        text,
+    );
+    let verdict = answer.verdict;
+    answer.length as u64 * 4_294_967_296 + pack(verdict) as u64
 }
 
 // Puts the seven counts in their places.

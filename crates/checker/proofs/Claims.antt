@@ -16,12 +16,12 @@ use Rattle.wellfounded.proofs.Levels.{levelInRange-open, levelInRange-defined, 
 use Rattle.tables.specs.Faults.{Test, Absent}
 use Rattle.tables.specs.Rows.{ruleCount, ruleHead, ruleBody, ruleAt, definitionOf}
 use Rattle.tables.proofs.RowLaws.{book-size, book-rows}
-use Rattle.tables.specs.Sound.{Tables, bookOf, Sound}
+use Rattle.tables.specs.Sound.{Tables, bookOf, claimSlices, Sound}
 use Rattle.tables.proofs.Faults.{absent-more}
 use Rattle.tables.proofs.SoundTables.{sound-rules, slices-fit, lent-tables, lent-slices}
 use Rattle.satisfaction.proofs.Satisfied.{absent-satisfies, satisfies-absent}
 use Rattle.tables.specs.Values.{notHeld}
-use Rattle.checker.specs.Check.{badLevel, unsupported, unblocked, valueTest, levelTest, supportTest, blockingTest, levelTests, claimTests, claimSlices, RightClaim}
+use Rattle.checker.specs.Check.{badLevel, unsupported, unblocked, valueTest, levelTest, supportTest, blockingTest, levelTests, claimTests, RightClaim}
 
 module _ (t : Tables) (values levels : List ℕ) where
   row-defined :

@@ -10,11 +10,11 @@ use Rattle.wellfounded.specs.Levels.{levelAt}
 use Rattle.wellfounded.proofs.Theorems.{sound, stage-below-level, unique}
 use Rattle.tables.specs.declared.Fault.{Fault}
 use Rattle.tables.specs.Faults.{Test, Absent, numberOf, positionOf, faultNumber, RefusedBy}
-use Rattle.tables.specs.Sound.{Tables, bookOf, lentTests, Sound}
+use Rattle.tables.specs.Sound.{Tables, bookOf, claimSlices, lentTests, Sound}
 use Rattle.satisfaction.specs.Satisfied.{Satisfies}
 use Rattle.tables.proofs.Faults.{accepted-absent, absent-accepted, first-append, refused-by, by-refused}
 use Rattle.tables.proofs.Numbers.{zero-accepted, number-refused}
-use Rattle.checker.specs.Check.{claimSlices, checkTests, checkOf, RightClaim}
+use Rattle.checker.specs.Check.{checkTests, checkOf, RightClaim}
 use Rattle.checker.proofs.Claims.{claim-right, right-claim}
 
 module _ (t : Tables) (values levels : List ℕ) where

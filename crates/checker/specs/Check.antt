@@ -2,7 +2,6 @@
 use Prim.Native.Nat.{ℕ}
 use mathlib.Core.Bool.{Bool, not, _&&_}
 use mathlib.Core.List.{List, [], _∷_, _++_}
-use lib.ListN.{length}
 use Rattle.wellfounded.specs.Lists.{any}
 use Rattle.wellfounded.specs.Literals.{isTrue, isFalse, valueAt}
 use Rattle.wellfounded.specs.Definitions.{Definition, isDefined}
@@ -12,7 +11,7 @@ use Rattle.tables.specs.declared.Fault.the-variants.{Value, Level, Unsupported,
 use Rattle.tables.specs.declared.Verdict.{Verdict}
 use Rattle.tables.specs.Faults.{Test, firstFault}
 use Rattle.tables.specs.Rows.{ruleCount, ruleHead, ruleBody}
-use Rattle.tables.specs.Sound.{Tables, bookOf, Slice, sized, lentTests}
+use Rattle.tables.specs.Sound.{Tables, bookOf, claimSlices, lentTests}
 use Rattle.tables.specs.Values.{notHeld}
 use Rattle.satisfaction.specs.Satisfied.{Satisfies, satisfactionTests}
 
@@ -52,10 +51,6 @@ levelTests d rules literals values levels =
 unfoldable pub claimTests : Tables → List ℕ → List ℕ → List Test
 claimTests t values levels =
     valueTest (t .atoms) values ∷ (levelTests (bookOf t) (t .rules) (t .literals) values levels ++ satisfactionTests t values)
-
--- The slices that the check is lent beside the tables: a value and a level for each atom.
-abbrev pub claimSlices : Tables → List ℕ → List ℕ → List Slice
-claimSlices t values levels = sized (length values) (t .atoms) ∷ sized (length levels) (t .atoms) ∷ []
 
 -- The faults of a call of the check: those of what it is lent, and of the claim.
 unfoldable pub checkTests : Tables → List ℕ → List ℕ → List Test

@@ -1,8 +1,8 @@
 // The program: reads a book's text from standard input and prints its report. Where the input cannot be read no report is
 // printed, and trouble with input or output is told on standard error.
-use lines::MAX_BYTES;
 use page::PAGE_SIZE;
 use report::report;
+use tables::sizes::MAX_BYTES;
 ghost use Prim.Native.Nat.{_≤_};
 ghost use lib.ListN.{length};
 

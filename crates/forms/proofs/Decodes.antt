@@ -27,7 +27,7 @@ use Rattle.forms.specs.Decoded.{codesOf, termOf, ruleIn, clauseIn, loadI
 
 module _ {A : Type 0} where
   -- Beyond its first row a table is the table of the other rows.
-  beyond-row : (row rest : List A) (i j : ℕ) (d : A) → i ≡ length row + j → getD (row ++ rest) i d ≡ getD rest j d
+  pub beyond-row : (row rest : List A) (i j : ℕ) (d : A) → i ≡ length row + j → getD (row ++ rest) i d ≡ getD rest j d
   beyond-row row rest i j d e = rw (e, getD-append-add)
 
   -- What is decoded first, and after it what the other rows decode to.

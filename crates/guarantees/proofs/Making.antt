@@ -20,13 +20,13 @@ use Rattle.tables.specs.declared.Fault.the-variants.{Undecided}
 use Rattle.tables.specs.declared.Verdict.{Verdict}
 use Rattle.tables.specs.declared.Verdict.the-variants.{Accepted, Refused}
 use Rattle.tables.specs.Faults.{Absent, firstFault, lowest, numberOf, faultNumber}
-use Rattle.tables.specs.Sound.{Tables, bookOf, Slice, sliceTest, lentTests, Sound}
+use Rattle.tables.specs.Sound.{Tables, bookOf, Slice, claimSlices, sliceTest, lentTests, Sound}
 use Rattle.satisfaction.specs.Satisfied.{clauseTest, loadTest, satisfactionTests}
 use Rattle.tables.proofs.Faults.{lowest-at, lowest-found, first-passes, first-fails, absent-none, absent-more, accepted-absent, absent-accepted, refused-among, first-append, first-append-refused}
 use Rattle.tables.proofs.RowLaws.{book-size}
 use Rattle.tables.proofs.SoundTables.{slices-absent, sized-none, sized-more, lent-tables, lent-marks, lent-none}
 use Rattle.satisfaction.proofs.Satisfied.{absent-satisfies, satisfies-absent}
-use Rattle.checker.specs.Check.{claimSlices, checkOf}
+use Rattle.checker.specs.Check.{checkOf}
 use Rattle.checker.proofs.Theorems.{accepted-exactly}
 use Rattle.tables.specs.Values.{notHeld}
 use Rattle.evaluator.specs.Evaluate.{undecidedTest, refusalTests, modelTests, modelFault, isMade, Evaluation, evaluated, stoppedOr, evaluateOf}

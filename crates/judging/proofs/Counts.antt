@@ -62,7 +62,7 @@ counts-within s t =
       terms = leb-true _ _ (k .4);
     }
 
-within-counts : (s : Reached) → CountsWithin s → countsWithin s ≡ true
+pub within-counts : (s : Reached) → CountsWithin s → countsWithin s ≡ true
 unfolding countsWithin
 within-counts s c = simp (le-leb _ _ (c .rules), le-leb _ _ (c .literals), le-leb _ _ (c .clauses), le-leb _ _ (c .loads), le-leb _ _ (c .terms))
 

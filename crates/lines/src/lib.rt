@@ -8,15 +8,13 @@ use judging::reached::Reached;
 use judging::reached::Space;
 use judging::reached::start;
 use tables::Fault;
+use tables::sizes::MAX_BYTES;
 ghost use mathlib.Core.Path.{_≡_};
 ghost use Rattle.judging.specs.Judging.{judgeText};
 ghost use Rattle.forms.specs.Contents.{lentTables};
 ghost use Rattle.lines.specs.internal.Walks.{endedAt, Walked};
 
 mod line;
-
-// A longer text is refused before anything in it is read.
-pub const MAX_BYTES: usize = 65535;
 
 // After the last line the state form may be missing.
 fn ended(reached: Reached, at: usize) -> Judged

@@ -3,7 +3,8 @@
 use Rattle.booktext.proofs.Computes.{computes as booktext-computes}
 use Rattle.checker.proofs.Computes.{computes as checker-computes}
 use Rattle.evaluator.proofs.Computes.{computes as evaluator-computes}
-use Rattle.outcome.specs.Outcomes.{fullSpace, verdictAlone, unlessStopped, evaluationOutcome, tablesOf, bookOutcome}
+use Rattle.booktext.specs.UsedParts.{tablesOf}
+use Rattle.outcome.specs.Outcomes.{fullSpace, verdictAlone, unlessStopped, evaluationOutcome, bookOutcome}
 use Rattle.outcome.specs.Outcomes.{answerOutcome, outcomeOf}
 
 unfoldable opens-outcomes : Unit {0}

@@ -27,7 +27,8 @@ use Rattle.judging.proofs.Refusals.{refused-low}
 use Rattle.forms.specs.Entries.{bookEntries}
 use Rattle.booktext.specs.GivenEntries.{OnesExactly}
 use Rattle.booktext.proofs.GivenEntries.{mark-entries}
-use Rattle.outcome.specs.Outcomes.{fullSpace, tablesOf, outcomeOf}
+use Rattle.booktext.specs.UsedParts.{tablesOf}
+use Rattle.outcome.specs.Outcomes.{fullSpace, outcomeOf}
 use Rattle.outcome.proofs.Never.{NeverGiven, never-numbered}
 
 -- Ones and zeros are at most 1.

@@ -21,7 +21,8 @@ use Rattle.forms.specs.Entries.{bookEntries}
 use Rattle.booktext.specs.declared.StateForm.{StateForm}
 use Rattle.booktext.specs.declared.StateForm.the-variants.{NoState, OpenState, ClaimState}
 use Rattle.booktext.specs.Answers.{stateOf, answerOf}
-use Rattle.outcome.specs.Outcomes.{fullSpace, verdictAlone, unlessStopped, evaluationOutcome, tablesOf, bookOutcome, answerOutcome, outcomeOf}
+use Rattle.booktext.specs.UsedParts.{tablesOf}
+use Rattle.outcome.specs.Outcomes.{fullSpace, verdictAlone, unlessStopped, evaluationOutcome, bookOutcome, answerOutcome, outcomeOf}
 
 -- The check and the maker never give the fault for some tables.
 pub record NeverGiven (fault : Fault) (t : Tables) : Type 0 where

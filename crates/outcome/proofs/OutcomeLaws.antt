@@ -45,8 +45,9 @@ use Rattle.lines.specs.internal.Walks.{Walked}
 use Rattle.booktext.specs.Answers.{spaceOf, stateOf, answerOf}
 use Rattle.booktext.proofs.Filling.{each-laid, used-counts}
 use Rattle.booktext.proofs.ReadLaws.{walk-fills}
-use Rattle.outcome.specs.Outcomes.{fullSpace, verdictAlone, unlessStopped, evaluationOutcome, tablesOf, bookOutcome}
-use Rattle.outcome.specs.internal.Promises.{usedIn, usedParts}
+use Rattle.booktext.proofs.UsedLaws.{laid-used, used-tables, used-values, used-levels}
+use Rattle.booktext.specs.UsedParts.{usedIn, usedParts, tablesOf}
+use Rattle.outcome.specs.Outcomes.{fullSpace, verdictAlone, unlessStopped, evaluationOutcome, bookOutcome}
 use Rattle.outcome.specs.Outcomes.{answerOutcome, outcomeOf}
 use Rattle.outcome.specs.internal.Promises.{GivesOutcome, HoldEveryAtom, FitsBook}
 
@@ -148,42 +149,6 @@ module _ {values levels : List ℕ} {verdict : Verdict} {state : StateForm} {ato
 
 -- The used parts of filled tables are the entries, and so they come to the same by each state form.
 module _ (s : Reached) (used held : Contents) (counts : (table : Table) → length (used table) ≡ countIn s table) where
-  used-part :
-      (table : Table) → usedIn (answerOf (Passed s)) table ≡ countIn s table →
-      usedParts (answerOf (Passed s)) (filled used held) table ≡ used table
-  unfolding usedParts filled
-  used-part table e = over-front (used table) (held table) _ (counts table ∙ sym e)
-
-  -- Of the tables that entries are laid down in, what is counted is used.
-  laid-used : (table : Table) → givenAnew table ≡ false → usedIn (answerOf (Passed s)) table ≡ countIn s table
-  unfolding usedIn answerOf countIn
-  laid-used = each-laid (λ table. usedIn (answerOf (Passed s)) table ≡ countIn s table) refl refl refl refl refl refl
-
-  used-marks : openStood ≤ s .phase → usedParts (answerOf (Passed s)) (filled used held) Marks ≡ used Marks
-  unfolding usedIn answerOf countIn
-  used-marks e = used-part Marks (sym (values-told s e))
-
-  used-tables : openStood ≤ s .phase → tablesOf (s .size) (usedParts (answerOf (Passed s)) (filled used held)) ≡ tablesOf (s .size) used
-  unfolding tablesOf givenAnew
-  used-tables e =
-      rw (
-        used-part Rules (laid-used Rules refl),
-        used-part Literals (laid-used Literals refl),
-        used-part Clauses (laid-used Clauses refl),
-        used-part Loads (laid-used Loads refl),
-        used-part LoadLiterals (laid-used LoadLiterals refl),
-        used-part Minutes (laid-used Minutes refl),
-        used-marks e,
-      )
-
-  used-values : openStood ≤ s .phase → usedParts (answerOf (Passed s)) (filled used held) Values ≡ used Values
-  unfolding usedIn answerOf countIn
-  used-values e = used-part Values (sym (values-told s e))
-
-  used-levels : claimStood ≤ s .phase → usedParts (answerOf (Passed s)) (filled used held) Levels ≡ used Levels
-  unfolding usedIn answerOf countIn
-  used-levels e = used-part Levels (sym (levels-told s e))
-
   used-outcome :
       bookOutcome Accepted (stateOf (s .phase)) (s .size) (usedParts (answerOf (Passed s)) (filled used held))
       ≡ bookOutcome Accepted (stateOf (s .phase)) (s .size) used
@@ -194,10 +159,10 @@ module _ (s : Reached) (used held : Contents) (counts : (table : Table) → leng
           (a : Bool) → eqb (s .phase) openStood ≡ a → (b : Bool) → eqb (s .phase) claimStood ≡ b →
           bookOutcome Accepted (cond a OpenState (cond b ClaimState NoState)) (s .size) (usedParts (answerOf (Passed s)) (filled used held))
           ≡ bookOutcome Accepted (cond a OpenState (cond b ClaimState NoState)) (s .size) used
-      step true d b e = let opened = eqb-true (s .phase) openStood d in rw (used-tables (omega arith), used-values (omega arith))
+      step true d b e = let opened = eqb-true (s .phase) openStood d in rw (used-tables s used held counts (omega arith), used-values s used held counts (omega arith))
       step false d true e =
           let claimed = eqb-true (s .phase) claimStood e in
-          rw (used-tables (omega arith), used-values (omega arith), used-levels (omega arith))
+          rw (used-tables s used held counts (omega arith), used-values s used held counts (omega arith), used-levels s used held counts (omega arith))
       step false d false e = refl
 
 -- A text that was read: the answer fits the tables afterwards, and their used parts make the outcome of the text.

@@ -5,12 +5,12 @@ use lib.ListN.{length}
 use Rattle.tables.specs.declared.Verdict.{Verdict}
 use Rattle.tables.specs.declared.Verdict.the-variants.{Accepted, Refused}
 use Rattle.tables.specs.Faults.{firstFault}
-use Rattle.tables.specs.Sound.{Tables, lent}
+use Rattle.tables.specs.Sound.{Tables}
 use Rattle.checker.specs.Check.{checkOf}
 use Rattle.evaluator.specs.Evaluate.{evaluationSlices, refusalTests, Evaluation, evaluated}
 use Rattle.format.specs.Forms.{Form}
 use Rattle.judging.specs.declared.reached.Space.{Space}
-use Rattle.judging.specs.LentTables.{Rules, Literals, Clauses, Loads, LoadLiterals, Minutes, Marks, Values, Levels, fullSize, spaceWith}
+use Rattle.judging.specs.LentTables.{Values, Levels, fullSize, spaceWith}
 use Rattle.judging.specs.Judging.{formsOf, judgeText}
 use Rattle.forms.specs.Contents.{Contents}
 use Rattle.forms.specs.Entries.{bookEntries}
@@ -18,6 +18,7 @@ use Rattle.booktext.specs.declared.StateForm.{StateForm}
 use Rattle.booktext.specs.declared.StateForm.the-variants.{NoState, OpenState, ClaimState}
 use Rattle.booktext.specs.declared.Book.{Book}
 use Rattle.booktext.specs.Answers.{answerOf}
+use Rattle.booktext.specs.UsedParts.{tablesOf}
 
 -- The sizes of tables that hold every book.
 unfoldable pub fullSpace : Space
@@ -44,11 +45,6 @@ unfoldable pub evaluationOutcome : Tables → List ℕ → TextOutcome
 evaluationOutcome t given =
     let slices = evaluationSlices (t .atoms) (length given) (t .atoms) (t .atoms) (t .atoms) in
     unlessStopped (firstFault (refusalTests t given slices)) (evaluated t given)
-
--- The tables that a book's entries make.
-unfoldable pub tablesOf : ℕ → Contents → Tables
-tablesOf atoms used =
-    lent atoms (used Rules) (used Literals) (used Clauses) (used Loads) (used LoadLiterals) (used Minutes) (used Marks)
 
 -- Without a state form there is the reader's verdict alone; an open form is evaluated, a claim is checked.
 unfoldable pub bookOutcome : Verdict → StateForm → ℕ → Contents → TextOutcome

@@ -1,19 +1,12 @@
--- Lists joined one after the other, and the lines of their atoms.
+-- Atoms joined one after the other, and their lines.
 -- Assumes nothing.
-use Prim.Native.Nat.{ℕ, zero, suc, _+_, _-_, _≤_, _<_}
+use Prim.Native.Nat.{ℕ, zero, suc, _+_}
 use mathlib.Core.Path.{_≡_, refl, ap, _∙_}
 use mathlib.Core.List.{List, [], _∷_, _++_, append-assoc, append-nil}
-use native.Mathlib.Omega.{arith}
-use native.Mathlib.Nat.{zero-add, suc-add}
-use native.Mathlib.Numerals.{add-one}
 use lib.ListN.{length, getD, length-append}
 use borrow.Author.Tests.{eq-eqb, ne-eqb}
-use Rattle.page.specs.Pages.{atomLine, joinBelow, atomAt, linesOf}
-
--- One part more, behind those before it.
-pub join-more : (n : ℕ) (f : ℕ → List ℕ) → joinBelow (n + 1) f ≡ joinBelow n f ++ f n
-unfolding joinBelow
-join-more n f = rw add-one
+use Rattle.printing.specs.Joined.{joinBelow}
+use Rattle.page.specs.Pages.{atomLine, atomAt, linesOf}
 
 -- An atom at the level is listed, and one that is not is passed over.
 pub atom-here : (levels : List ℕ) (level atom : ℕ) → getD levels atom 0 ≡ level → atomAt levels level atom ≡ atom ∷ []
@@ -31,10 +24,11 @@ module _ (values levels : List ℕ) where
   lines-append [] ys = refl
   lines-append (x ∷ xs) ys = rw (lines-append xs ys) (simp append-assoc)
 
-  pub lines-more :
-      (n : ℕ) (f : ℕ → List ℕ) →
-      linesOf values levels (joinBelow (n + 1) f) ≡ linesOf values levels (joinBelow n f) ++ linesOf values levels (f n)
-  lines-more n f = ap (linesOf values levels) (join-more n f) ∙ lines-append _ _
+  -- The lines of joined parts are the joined lines of the parts.
+  pub lines-joined : (n : ℕ) (f : ℕ → List ℕ) → linesOf values levels (joinBelow n f) ≡ joinBelow n (λ k. linesOf values levels (f k))
+  unfolding joinBelow linesOf
+  lines-joined zero f = refl
+  lines-joined (suc n) f = rw (lines-append (joinBelow n f) (f n), lines-joined n f)
 
   -- How long the lines of a list are.
   abbrev pub size : List ℕ → ℕ
@@ -42,25 +36,6 @@ module _ (values levels : List ℕ) where
 
   pub size-append : (xs ys : List ℕ) → size (xs ++ ys) ≡ size xs + size ys
   size-append xs ys = rw (lines-append xs ys, length-append)
-
-  -- More parts are at least as long.
-  size-longer : (m k : ℕ) (f : ℕ → List ℕ) → size (joinBelow m f) ≤ size (joinBelow (k + m) f)
-  unfolding joinBelow
-  size-longer m zero f = rw zero-add (omega arith)
-  size-longer m (suc k) f = let before = size-longer m k f in rw (suc-add k m, size-append) (omega arith)
-
-  size-below : (m n : ℕ) (f : ℕ → List ℕ) → m ≤ n → size (joinBelow m f) ≤ size (joinBelow n f)
-  size-below m n f h =
-      let e : n - m + m ≡ n = omega arith in
-      rw e at (size-longer m (n - m) f)
-
-  -- A part that is still to be put is within the room of all.
-  pub part-within :
-      (at m n most : ℕ) (f : ℕ → List ℕ) → m < n → at + size (joinBelow n f) ≤ most → at + size (joinBelow m f) + size (f m) ≤ most
-  part-within at m n most f h room =
-      let next = ap size (join-more m f) ∙ size-append (joinBelow m f) (f m) in
-      let below = size-below (m + 1) n f (omega arith) in
-      omega arith
 
   -- The line of an atom at the level, and of one that is not.
   pub line-here :

@@ -3,37 +3,59 @@
 use Prim.Native.Nat.{ℕ, zero, suc, _+_, _*_, _≤_, _<_}
 use mathlib.Core.Path.{_≡_, refl, ap}
 use mathlib.Core.Logic.{_⊎_, inl, inr}
-use mathlib.Core.Bool.{Bool, true, false}
+use mathlib.Core.Bool.{Bool, true, false, not}
 use mathlib.Core.List.{List, [], _++_}
 use native.Mathlib.Omega.{arith}
 use native.Mathlib.Nat.{suc-mul}
 use lib.Dec.{eqb}
 use lib.ListN.{length, getD, length-append}
-use borrow.Author.Tests.{eqb-true, eqb-false}
-use mir.Syntax.{w8, w16}
-use mir.Val.{Fits}
+use borrow.Author.Tests.{eqb-true, eqb-false, not-true, not-false}
 use Rattle.wellfounded.proofs.Tests.{decided}
 use Rattle.tables.specs.declared.Verdict.{Verdict}
 use Rattle.tables.specs.declared.Verdict.the-variants.{Accepted, Refused}
+use Rattle.tables.specs.declared.Fault.{Fault}
 use Rattle.tables.specs.Limits.{maxAtoms, maxPosition}
 use Rattle.tables.specs.Faults.{faultNumber, positionOf}
 use Rattle.tables.proofs.Numbers.{number-bounds}
 use Rattle.format.specs.Forms.{decimal}
-use Rattle.page.specs.Pages.{verdictLine, madeLine, atomLine, joinBelow, atomAt, atomsAt, atomsInOrder}
+use Rattle.printing.specs.Joined.{joinBelow}
+use Rattle.printing.proofs.DecimalLaws.{length-1, length-2, length-4, length-5}
+use Rattle.page.specs.Pages.{verdictLine, madeLine, atomLine, atomAt, atomsAt, atomsInOrder}
 use Rattle.page.specs.Pages.{linesOf, atomLines, pageOf, pageSize}
-use Rattle.page.specs.internal.Putting.{Printable}
-use Rattle.page.proofs.DecimalLaws.{length-1, length-2, length-3, length-4, length-5}
 use Rattle.page.proofs.Joining.{size, size-append, line-here, line-other}
 
-length-atomLine :
+pub length-atomLine :
     (atom value level : ℕ) →
     length (atomLine atom value level) ≡ 10 + (length (decimal atom) + (length (decimal value) + length (decimal level)))
 unfolding atomLine
 length-atomLine atom value level = simp length-append (omega arith)
 
-length-madeLine : (rounds : ℕ) → length (madeLine rounds) ≡ 8 + length (decimal rounds)
+pub length-madeLine : (rounds : ℕ) → length (madeLine rounds) ≡ 8 + length (decimal rounds)
 unfolding madeLine
 length-madeLine rounds = simp length-append (omega arith)
+
+pub length-accepted : (v : Verdict) → v ≡ Accepted → length (verdictLine v) ≡ 11
+unfolding verdictLine
+length-accepted v e = rw e
+
+pub length-refused :
+    (v : Verdict) (fault : Fault) (position number : ℕ) → v ≡ Refused fault position → number ≡ faultNumber fault →
+    length (verdictLine v) ≡ 12 + (length (decimal number) + length (decimal position))
+unfolding verdictLine
+length-refused v fault position number e n = rw (e, n) (simp length-append (omega arith))
+
+pub length-plain :
+    (made : Bool) (verdict : Verdict) (rounds : ℕ) (values levels : List ℕ) → not made ≡ true →
+    length (pageOf made verdict rounds values levels) ≡ length (verdictLine verdict)
+unfolding pageOf
+length-plain made verdict rounds values levels t = rw (not-true made t)
+
+pub length-whole :
+    (made : Bool) (verdict : Verdict) (rounds : ℕ) (values levels : List ℕ) → not made ≡ false →
+    length (pageOf made verdict rounds values levels) ≡
+    length (madeLine rounds) + (length (atomLines values levels rounds) + length (verdictLine verdict))
+unfolding pageOf
+length-whole made verdict rounds values levels t = rw (not-false made t) (simp length-append)
 
 module _ (values levels : List ℕ) where
   -- How long the line of an atom is.
@@ -102,20 +124,6 @@ module _ (values levels : List ℕ) where
 
 made-short : (rounds : ℕ) → rounds ≤ maxAtoms → length (madeLine rounds) ≤ 12
 made-short rounds h = omega (arith, length-madeLine rounds, length-4 rounds (omega arith))
-
--- Of bytes and 16-bit levels no line has more than 22 bytes, so that all lines are within 30,000.
-pub page-room :
-    (values levels : List ℕ) (rounds : ℕ) → ((k : ℕ) → Fits w8 (getD values k 0)) → ((k : ℕ) → Fits w16 (getD levels k 0)) →
-    Printable values levels → rounds ≤ maxAtoms → length (madeLine rounds) + length (atomLines values levels rounds) ≤ 30000
-page-room values levels rounds small low p short = omega (arith, made-short rounds short, lines-within values levels 22 rounds each, p .few)
-  where
-    each : (atom : ℕ) → atom < length levels → length (atomLine atom (getD values atom 0) (getD levels atom 0)) ≤ 22
-    each atom h =
-        let a = length-4 atom (omega (arith, p .few)) in
-        let v = length-3 (getD values atom 0) (omega (arith, small atom)) in
-        let l = length-5 (getD levels atom 0) (omega (arith, low atom)) in
-        let line = length-atomLine atom (getD values atom 0) (getD levels atom 0) in
-        omega arith
 
 verdict-short : (v : Verdict) → positionOf v ≤ maxPosition → length (verdictLine v) ≤ 19
 unfolding verdictLine

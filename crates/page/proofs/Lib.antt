@@ -3,6 +3,4 @@ pub mod Order
 pub mod Lengths
 pub mod Joining
 pub mod Listing
-pub mod PutLaws
-pub mod DecimalLaws
 pub mod Computes

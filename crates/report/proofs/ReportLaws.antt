@@ -19,8 +19,9 @@ use Rattle.evaluator.specs.Evaluate.{isMade}
 use Rattle.outcome.specs.Outcomes.{outcomeOf}
 use Rattle.outcome.specs.internal.Promises.{GivesOutcome}
 use Rattle.outcome.proofs.Bounds.{outcome-bounded}
+use Rattle.printing.specs.internal.Putting.{Puts}
 use Rattle.page.specs.Pages.{pageOf, pageSize}
-use Rattle.page.specs.internal.Putting.{Puts, Printable}
+use Rattle.page.specs.internal.Putting.{Printable}
 use Rattle.page.proofs.Lengths.{page-size, page-some}
 use Rattle.report.specs.Reports.{isOpenState, printsAtoms, outcomePage, reportOf, Reported}
 
@@ -65,13 +66,17 @@ module _ (text valuesBefore levelsBefore : List ℕ) {verdict : Verdict} {state 
   atoms-within = let b = outcome-bounded text in omega (arith, comes .atomsIs, b .alike, b .few)
 
   -- What `put_page` asks,
-  pub printable : Printable (take (atoms - 0) values) (take (atoms - 0) levels) × (positionOf verdict ≤ maxPosition) × (rounds ≤ maxAtoms)
-  printable =
-      let b = outcome-bounded text in (
-        rw (front-values, front-levels) (record { even = b .alike; few = b .few }),
-        rw (comes .verdictIs) (b .position),
-        rw (comes .roundsIs) (b .rounds),
-      )
+  pub printable :
+      (made : Bool) (most : ℕ) → pageSize ≤ most →
+      Printable (take (atoms - 0) values) (take (atoms - 0) levels) ×
+      ((positionOf verdict ≤ maxPosition) × (rounds ≤ maxAtoms) ×
+      (length (pageOf made verdict rounds (take (atoms - 0) values) (take (atoms - 0) levels)) ≤ most))
+  printable made most l =
+      let o = outcomeOf text in
+      let b = outcome-bounded text in
+      let room = page-size made (o .verdict) (o .rounds) (o .values) (o .levels) (b .values) (λ k. omega (arith, b .levels k, b .rounds)) (b .alike) (b .few) (b .rounds) (b .position) in
+      rw (front-values, front-levels, comes .verdictIs, comes .roundsIs)
+      (record { even = b .alike; few = b .few }, (b .position, b .rounds, omega (arith, room)))
 
   -- and what it then has written.
   pub report-written :

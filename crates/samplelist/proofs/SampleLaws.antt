@@ -3,7 +3,7 @@
 use Prim.Native.Nat.{ℕ, zero, suc, _≤_, _<_, _-_}
 use mathlib.Core.Path.{_≡_, refl, sym, ap, _∙_}
 use mathlib.Core.Bool.{true}
-use mathlib.Core.List.{List, [], _∷_, map}
+use mathlib.Core.List.{List, [], _∷_, _++_, map}
 use native.Mathlib.Omega.{arith}
 use lib.Dec.{leb}
 use lib.ListN.{length, getD, take}
@@ -14,7 +14,7 @@ use borrow.Author.Tests.{leb-true, le-leb}
 use Rattle.wellfounded.proofs.Tests.{first, second}
 use Rattle.wellfounded.specs.Lists.{all}
 use Rattle.page.specs.Pages.{pageSize}
-use Rattle.page.specs.internal.Putting.{Puts}
+use Rattle.printing.specs.internal.Putting.{Puts}
 use Rattle.report.specs.Reports.{reportOf, Reported}
 use Rattle.report.proofs.ReportLaws.{report-size, front}
 use Rattle.samplelist.specs.Samples.{bytes, prints, bookA, samples, texts, textAt, pageAt}
@@ -36,6 +36,11 @@ short (t ∷ ts) (suc i) e = short ts i (second (leb (length t) 200) _ e)
 pub text-short : (i : ℕ) → length (textAt i) ≤ 200
 unfolding textAt texts samples prints bookA bytes all
 text-short i = short texts i refl
+
+-- Book A leaves room in it for a state form.
+pub book-room : (state : List ℕ) (most : ℕ) → length state ≤ 100 → 200 ≤ most → length (bookA ++ state) ≤ most
+unfolding bookA bytes
+book-room state most short room = omega arith
 
 -- The report of a sample's text is the sample's page.
 mapped : (l : List (List ℕ)) (i : ℕ) → i < length l → getD (map reportOf l) i [] ≡ reportOf (getD l i [])

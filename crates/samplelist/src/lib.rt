@@ -4,9 +4,9 @@ ghost use mathlib.Core.Path.{_≡_};
 ghost use mathlib.Core.List.{_++_};
 ghost use lib.ListN.{length, take};
 ghost use Rattle.page.specs.Pages.{pageSize};
-ghost use Rattle.page.specs.internal.Putting.{Puts};
+ghost use Rattle.printing.specs.internal.Putting.{Puts};
 ghost use Rattle.samplelist.specs.Samples.{bookA, textAt, pageAt};
-use page::put;
+use printing::put;
 use report::report;
 
 // How many samples there are.
@@ -14,7 +14,7 @@ pub const SAMPLES: usize = 12;
 
 // Puts book A with a state form at the front of the buffer.
 fn put_book_a(buffer: &mut [u8], state: &[u8]) -> usize
-    requires { ⌜ length (now state) ≤ 1000 ⌝ }
+    requires { ⌜ length (bookA ++ now state) ≤ length (now buffer) ⌝ }
     ensures { λ r. ⌜ Puts (now (buffer .entry)) 0 (bookA ++ now (state .entry)) r (now (buffer .exit)) ⌝ }
 {
     let after_book = put(
@@ -27,7 +27,7 @@ fn put_book_a(buffer: &mut [u8], state: &[u8]) -> usize
 
 // Puts the text of a sample at the front of the buffer, and answers its length.
 fn put_text(sample: usize, buffer: &mut [u8]) -> usize
-    requires { ⌜ sample < 12 ⌝ }
+    requires { ⌜ (sample < 12) × (200 ≤ length (now buffer)) ⌝ }
     ensures { λ r. ⌜ Puts (now (buffer .entry)) 0 (textAt sample) r (now (buffer .exit)) ⌝ }
 {
     match sample {

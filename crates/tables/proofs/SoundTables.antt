@@ -20,7 +20,7 @@ use Rattle.tables.specs.declared.Fault.the-variants.{SliceLength, Mark}
 use Rattle.tables.specs.declared.Verdict.the-variants.{Refused}
 use Rattle.tables.specs.Faults.{Test, Absent, firstFault}
 use Rattle.tables.specs.Rows.{ruleWidth, clauseWidth, ruleCount, ruleHead, ruleStart, ruleSize, clauseStart, clauseSize}
-use Rattle.tables.specs.Loads.{loadWidth, loadEntry}
+use Rattle.tables.specs.Loads.{loadWidth, loadCount, loadEntry}
 use Rattle.tables.specs.Sound.{Tables, sizesFit, fitsSizes, badRuleRow, badClauseRow, goodLoadRow, badLiteral, badTerm, tableTests}
 use Rattle.tables.specs.Values.{notHeld}
 use Rattle.tables.specs.Sound.{Slice, sized, isSized, sliceTest, markCountTest, markTest, lentTests, Sizes, LoadRowFits, MarksFit}
@@ -175,11 +175,22 @@ module _ (t : Tables) (none : (test : Test) → List·Memᴰ test (tableTests t)
         known = known-literals;
       }
 
+  pub sound-load-rows : (row : ℕ) → row < loadCount (t .loads) → LoadRowFits (t .loads) (length (t .loadLiterals)) row
+  unfolding tableTests
+  sound-load-rows row l =
+      load-row-fault (t .loads) (length (t .loadLiterals)) row .0
+      (not-false _ (none _ (List·Memᴰ·tail (List·Memᴰ·tail (List·Memᴰ·tail (List·Memᴰ·head refl)))) .nowhere row l))
+
+  pub sound-minutes : (place : ℕ) → place < length (t .loadLiterals) → natAbs (getD (t .minutes) place (pos 0)) ≤ maxMinutes
+  unfolding tableTests badTerm
+  sound-minutes place l =
+      ltb-false _ _ (neither (badLiteral (t .atoms) (t .loadLiterals) place) _ (none _ (List·Memᴰ·tail (List·Memᴰ·tail (List·Memᴰ·tail (List·Memᴰ·tail (List·Memᴰ·tail (List·Memᴰ·head refl)))))) .nowhere place l) .1)
+
   pub sound-loads : LoadsScannable (t .loads) (t .loadLiterals) (t .minutes) (t .atoms)
   unfolding tableTests badTerm badLiteral atomOf
   sound-loads =
       record {
-        within = λ row l. load-row-fault (t .loads) (length (t .loadLiterals)) row .0 (not-false _ (none _ (List·Memᴰ·tail (List·Memᴰ·tail (List·Memᴰ·tail (List·Memᴰ·head refl)))) .nowhere row l)) .within;
+        within = λ row l. sound-load-rows row l .within;
         known = λ place l.
             let small = leb-false (2 * t .atoms) (getD (t .loadLiterals) place 0) (neither _ _ (none _ (List·Memᴰ·tail (List·Memᴰ·tail (List·Memᴰ·tail (List·Memᴰ·tail (List·Memᴰ·tail (List·Memᴰ·head refl)))))) .nowhere place l) .0) in
             omega arith;

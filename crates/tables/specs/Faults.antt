@@ -8,7 +8,7 @@ use Rattle.tables.specs.declared.Found.the-variants.{At, Nothing}
 use Rattle.tables.specs.declared.Fault.{Fault}
 use Rattle.tables.specs.declared.Fault.the-variants.{Malformed, OutsideLimits, OutOfOrder, NoSpace}
 use Rattle.tables.specs.declared.Fault.the-variants.{TableSizes, RuleRow, ClauseRow, LoadRow, Literal, LoadTerm, SliceLength}
-use Rattle.tables.specs.declared.Fault.the-variants.{Value, Level, Unsupported, Unblocked, Undecided, FailingClause, FailingLoad, Mark}
+use Rattle.tables.specs.declared.Fault.the-variants.{Value, Level, Unsupported, Unblocked, Undecided, FailingClause, FailingLoad, Mark, TextSize}
 use Rattle.tables.specs.declared.Verdict.{Verdict}
 use Rattle.tables.specs.declared.Verdict.the-variants.{Accepted, Refused}
 
@@ -33,6 +33,7 @@ faultNumber Undecided = 25
 faultNumber FailingClause = 26
 faultNumber FailingLoad = 27
 faultNumber Mark = 31
+faultNumber TextSize = 32
 
 -- A verdict's number (0 is accepted) and its position, which the paper calls its spot (0 if accepted).
 abbrev pub numberOf : Verdict → ℕ

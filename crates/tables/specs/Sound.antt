@@ -102,6 +102,10 @@ sized entries due = record { entries = entries; due = due }
 unfoldable pub isSized : Slice → Bool
 isSized s = eqb (s .entries) (s .due)
 
+-- The slices of a claim, lent beside the tables: a value and a level for each atom.
+abbrev pub claimSlices : Tables → List ℕ → List ℕ → List Slice
+claimSlices t values levels = sized (length values) (t .atoms) ∷ sized (length levels) (t .atoms) ∷ []
+
 -- 17: another lent slice that has not the length that it must have.
 unfoldable pub sliceTest : List Slice → Test
 sliceTest slices = record { fault = SliceLength; positions = 1; bad = λ k. not (all isSized slices) }

@@ -36,6 +36,7 @@ pub enum Fault {
     FailingClause,
     FailingLoad,
     Mark,
+    TextSize,
 }
 
 // What every call answers: accepted, or refused for a fault at a position.
@@ -68,6 +69,7 @@ pub fn fault_number(fault: Fault) -> usize
         Fault::FailingClause => 26,
         Fault::FailingLoad => 27,
         Fault::Mark => 31,
+        Fault::TextSize => 32,
     }
 }
 

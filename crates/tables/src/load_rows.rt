@@ -52,6 +52,22 @@ pub fn load_size(loads: &[i32], row: usize) -> usize
     load_index(loads, row * LOAD_WIDTH + 3)
 }
 
+// The lower bound of a load line.
+pub fn load_low(loads: &[i32], row: usize) -> i32
+    requires { ⌜ row < loadCount (now loads) ⌝ }
+    ensures { λ r. ⌜ r ≡ loadLow (now (loads .entry)) row ⌝ }
+{
+    loads[row * LOAD_WIDTH]
+}
+
+// The upper bound of a load line.
+pub fn load_high(loads: &[i32], row: usize) -> i32
+    requires { ⌜ row < loadCount (now loads) ⌝ }
+    ensures { λ r. ⌜ r ≡ loadHigh (now (loads .entry)) row ⌝ }
+{
+    loads[row * LOAD_WIDTH + 1]
+}
+
 // Whether an entry of a load table is a bound in range.
 fn bound_is_good(loads: &[i32], place: usize) -> bool
     requires { ⌜ place < length (now loads) ⌝ }

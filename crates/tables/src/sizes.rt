@@ -40,6 +40,9 @@ pub const MAX_VALUE: usize = 255;
 
 pub const MAX_LEVEL: usize = 65535;
 
+// A longer text is refused before anything in it is read, and none is written.
+pub const MAX_BYTES: usize = 65535;
+
 // The number of atoms and the tables' lengths are within their limits, with whole rows and as many minutes as load literals.
 fn sizes_fit(
     atoms: usize,

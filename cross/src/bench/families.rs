@@ -52,11 +52,11 @@ pub struct Sample {
     pub rounds: u64,
 }
 
-/// The text of a book with either state form, and the maker's rounds on it.
+/// A book with its text in either state form.
 pub struct Texts {
+    pub sample: Sample,
     pub open: Vec<u8>,
     pub claim: Vec<u8>,
-    pub rounds: u64,
 }
 
 /// All books of a family and size. There are the more of them the smaller they are, so that each size has as many entries in all,
@@ -71,7 +71,7 @@ impl Books {
         let mut random = Random::new(2_024 + eighths as u64);
         let count = 128 / eighths;
         let samples = (0..count).map(|_| sample(family, Measure::TABLES.eighths(eighths), &mut random)).collect();
-        let texts = (0..count).map(|_| texts(&sample(family, Measure::TEXT.eighths(eighths), &mut random))).collect();
+        let texts = (0..count).map(|_| texts(sample(family, Measure::TEXT.eighths(eighths), &mut random))).collect();
         Books { samples, texts }
     }
 }
@@ -99,9 +99,9 @@ fn made(book: &Book, open: &[u8]) -> (Claim, u64) {
     (claim, answer >> 32)
 }
 
-fn texts(sample: &Sample) -> Texts {
+fn texts(sample: Sample) -> Texts {
     let lines = lines(&sample.book);
     let [open, claim] = [open_form(&sample.open), claim_form(&sample.claim)].map(|state| (lines.clone() + &state).into_bytes());
     assert!(claim.len() <= 65_535, "a text of the benchmarks is too long");
-    Texts { open, claim, rounds: sample.rounds }
+    Texts { sample, open, claim }
 }

@@ -1,12 +1,13 @@
 //! The calls that are measured, each on all books of a family and size.
 
-use super::families::{Books, SIZES};
+use super::families::{Books, Sample, SIZES};
 use super::timing::{compare, Patience, Times};
-use crate::calls::{Calls, TablesToFill, PAGE_SIZE};
+use crate::calls::{Calls, TablesToFill, PAGE_SIZE, TEXT_MAX};
 
 #[derive(Clone, Copy, PartialEq, Eq, Debug)]
 pub enum Measured {
     Read,
+    Write,
     Check,
     Evaluate,
     VerdictOnClaim,
@@ -15,8 +16,9 @@ pub enum Measured {
 }
 
 impl Measured {
-    pub const ALL: [Measured; 6] = [
+    pub const ALL: [Measured; 7] = [
         Measured::Read,
+        Measured::Write,
         Measured::Check,
         Measured::Evaluate,
         Measured::VerdictOnClaim,
@@ -27,6 +29,7 @@ impl Measured {
     pub fn name(self) -> &'static str {
         match self {
             Measured::Read => "battenplum_read",
+            Measured::Write => "battenplum_write",
             Measured::Check => "battenplum_check",
             Measured::Evaluate => "battenplum_evaluate",
             Measured::VerdictOnClaim => "battenplum_verdict on a claim",
@@ -38,7 +41,7 @@ impl Measured {
     /// What times are divided by.
     pub fn unit(self) -> &'static str {
         match self {
-            Measured::Read | Measured::VerdictOnClaim => "byte",
+            Measured::Read | Measured::Write | Measured::VerdictOnClaim => "byte",
             Measured::Check => "literal",
             Measured::Evaluate => "literal and round",
             Measured::VerdictOnOpen | Measured::ReportOnOpen => "byte and round",
@@ -49,11 +52,11 @@ impl Measured {
     pub fn units(self, books: &Books) -> f64 {
         let rounds = |rounds: u64| (rounds + 1) as usize;
         let units: usize = match self {
-            Measured::Read | Measured::VerdictOnClaim => books.texts.iter().map(|text| text.claim.len()).sum(),
+            Measured::Read | Measured::Write | Measured::VerdictOnClaim => books.texts.iter().map(|text| text.claim.len()).sum(),
             Measured::Check => books.samples.iter().map(|sample| sample.book.entries()).sum(),
             Measured::Evaluate => books.samples.iter().map(|sample| sample.book.entries() * rounds(sample.rounds)).sum(),
             Measured::VerdictOnOpen | Measured::ReportOnOpen => {
-                books.texts.iter().map(|text| text.open.len() * rounds(text.rounds)).sum()
+                books.texts.iter().map(|text| text.open.len() * rounds(text.sample.rounds)).sum()
             }
         };
         units as f64
@@ -72,6 +75,10 @@ impl Measured {
         let (tables, n) = (sample.book.tables(), sample.book.n);
         match self {
             Measured::Read => lent.read(calls, &texts.claim).into(),
+            Measured::Write => {
+                let Sample { book, claim, .. } = &texts.sample;
+                calls.write(book.tables(), &claim.values, &claim.levels, &mut lent.text)
+            }
             Measured::Check => calls.check(tables, &sample.claim.values, &sample.claim.levels).into(),
             Measured::Evaluate => {
                 calls.evaluate(tables, &sample.open, &mut lent.values[..n], &mut lent.levels[..n], &mut lent.work[..n])
@@ -83,7 +90,7 @@ impl Measured {
     }
 }
 
-/// Tables of full size, the maker's slices and a page, as a host would keep them.
+/// Tables of full size, the maker's slices, a page and a text, as a host would keep them.
 pub struct Lent {
     rules: Vec<u16>,
     literals: Vec<u16>,
@@ -96,6 +103,7 @@ pub struct Lent {
     levels: Vec<u16>,
     work: Vec<u16>,
     page: Vec<u8>,
+    text: Vec<u8>,
 }
 
 impl Default for Lent {
@@ -112,6 +120,7 @@ impl Default for Lent {
             levels: vec![0; 1_024],
             work: vec![0; 1_024],
             page: vec![0; PAGE_SIZE],
+            text: vec![0; TEXT_MAX],
         }
     }
 }

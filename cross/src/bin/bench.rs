@@ -18,6 +18,10 @@ A ratio is the library's time over that of `fast`, at an eighth, a quarter, a ha
 those of one call at full size; growth is the cost of a unit at full size over that at an eighth. The library and `fast` run in
 alternation in one process, each time on another book; every time is the lower quartile of many.";
 
+const BOOKS: &str = "\
+Literals are those of rules, clauses and load lines. Texts of the random family have fewer, to keep within 65,535 bytes; what is written are the books of
+these texts with their claims.";
+
 fn main() {
     let quick = std::env::args().any(|argument| argument == "--quick");
     let patience = match quick {
@@ -51,7 +55,7 @@ fn print_families(families: &[Sizes]) {
             average(texts.iter().map(|text| text.claim.len()).sum()),
         );
     }
-    println!("\nLiterals are those of rules, clauses and load lines. Texts of the random family have fewer, to keep within 65,535 bytes.");
+    println!("\n{BOOKS}");
 }
 
 /// The times of one call on one family, from the smallest size to the full one.

@@ -1,6 +1,7 @@
 //! Compares the library, the fast solver and the program with the solver, on every family of cases.
 //!
-//!     differ [--seed S] [--count C] [--family NAME] [--program FILE] [--refusals FILE] [--faults]
+//!     differ [--seed S] [--count C] [--family NAME] [--program FILE] [--refusals FILE] [--examples FOLDER]
+//!         [--textsamples FOLDER] [--faults]
 //!
 //! S chooses the random cases, C how many rounds each random family makes (half as many in the families with marks); with NAME
 //! only this family is run. The first difference is printed with the smallest case that shows it, and the status is then 1. With
@@ -13,6 +14,7 @@ use cross::{
         refusals,
         session::{Found, Session},
         side::Side,
+        textsamples,
     },
     fast::Fast,
     solver::{Fault, Solver},
@@ -23,11 +25,11 @@ use std::{
     io::{self, Write},
     path::{Path, PathBuf},
     process::ExitCode,
-    time::Instant,
+    time::{Duration, Instant},
 };
 
 /// The numbers of the paper. A run in which one of them never is the verdict has lost what it was there for.
-const NUMBERS: [u32; 20] = [0, 1, 2, 3, 4, 11, 12, 13, 14, 15, 16, 17, 21, 22, 23, 24, 25, 26, 27, 31];
+const NUMBERS: [u32; 21] = [0, 1, 2, 3, 4, 11, 12, 13, 14, 15, 16, 17, 21, 22, 23, 24, 25, 26, 27, 31, 32];
 
 struct Options {
     seed: u64,
@@ -35,6 +37,8 @@ struct Options {
     family: Option<String>,
     program: PathBuf,
     refusals: PathBuf,
+    examples: PathBuf,
+    textsamples: PathBuf,
     faults: bool,
 }
 
@@ -58,7 +62,8 @@ fn status(good: bool) -> ExitCode {
     }
 }
 
-/// The program and the page stand beside this package, unless options or the variable that the build knows say otherwise.
+/// The program, the page, the examples and the source of textsamples stand beside this package, unless options or the variable that
+/// the build knows say otherwise.
 fn options(mut arguments: impl Iterator<Item = String>) -> Result<Options, String> {
     let repository = Path::new(env!("CARGO_MANIFEST_DIR")).join("..");
     let build = env::var("BATTENPLUM_BUILD").map_or(repository.join("build"), PathBuf::from);
@@ -68,6 +73,8 @@ fn options(mut arguments: impl Iterator<Item = String>) -> Result<Options, Strin
         family: None,
         program: build.join("battenplum"),
         refusals: repository.join("docs/REFUSALS.md"),
+        examples: repository.join("examples"),
+        textsamples: repository.join("crates/textsamples/src"),
         faults: false,
     };
     while let Some(name) = arguments.next() {
@@ -83,6 +90,8 @@ fn options(mut arguments: impl Iterator<Item = String>) -> Result<Options, Strin
             "--family" => options.family = Some(value),
             "--program" => options.program = value.into(),
             "--refusals" => options.refusals = value.into(),
+            "--examples" => options.examples = value.into(),
+            "--textsamples" => options.textsamples = value.into(),
             _ => return Err(format!("{name} is no option")),
         }
     }
@@ -94,7 +103,9 @@ fn families_of(options: &Options) -> Result<Vec<Family>, String> {
     let named = |file: &Path, error: io::Error| format!("{}: {error}", file.display());
     fs::metadata(&options.program).map_err(|error| named(&options.program, error))?;
     let page = fs::read_to_string(&options.refusals).map_err(|error| named(&options.refusals, error))?;
-    let all = families::all(refusals::of_page(&page)?);
+    let examples = files_in(&options.examples, "book").map_err(|error| named(&options.examples, error))?;
+    let sources = files_in(&options.textsamples, "rt").map_err(|error| named(&options.textsamples, error))?;
+    let all = families::all(refusals::of_page(&page)?, examples, textsamples::claims_in(&sources)?);
     let names: Vec<&str> = all.iter().map(|family| family.name).collect();
     let unknown = options.family.as_ref().filter(|name| !names.contains(&name.as_str()));
     match unknown {
@@ -106,9 +117,23 @@ fn families_of(options: &Options) -> Result<Vec<Family>, String> {
     }
 }
 
+/// What the files of a folder hold whose names end so, by rising name; it has some.
+fn files_in(folder: &Path, ending: &str) -> io::Result<Vec<Vec<u8>>> {
+    let files = fs::read_dir(folder)?.map(|entry| Ok(entry?.path())).collect::<io::Result<Vec<PathBuf>>>()?;
+    let mut named: Vec<PathBuf> = files.into_iter().filter(|file| file.extension().is_some_and(|name| name == ending)).collect();
+    named.sort();
+    match named.is_empty() {
+        true => Err(io::Error::other(format!("no file .{ending} is there"))),
+        false => named.iter().map(fs::read).collect(),
+    }
+}
+
 /// Runs one family in a session of its own, so that its cases do not depend on the families before.
 fn run<'a>(family: &Family, options: &Options, solver: Solver, sides: &[Side<'a>]) -> (Session<'a>, Option<Box<Found>>) {
     let mut session = Session::new(solver, sides, family.random(options.seed), options.count);
+    if solver.fault.is_some() {
+        session.patience = Duration::from_secs(2); // that there is a difference is what counts
+    }
     let found = family.run(&mut session).err();
     (session, found)
 }

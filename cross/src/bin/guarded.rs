@@ -1,4 +1,4 @@
-//! Runs cases of all five calls with every lent slice between guard pages, and compares the outcomes with the solver. A library
+//! Runs cases of all six calls with every lent slice between guard pages, and compares the outcomes with the solver. A library
 //! that touches anything beside a slice, or writes to one that it may only read, is ended by a signal.
 //!
 //!     guarded [--seed S] [--count C]
@@ -51,7 +51,7 @@ fn numbers(arguments: &[&str]) -> Option<(u64, usize)> {
 
 fn run(seed: u64, count: usize) -> ExitCode {
     let library = GuardedLibrary::default();
-    for family in families::all(Vec::new()) {
+    for family in families::all(Vec::new(), Vec::new(), Vec::new()) {
         let mut session = Session::new(Solver::default(), &[Side::Calls(&library)], family.random(seed), count);
         if let Err(found) = family.run(&mut session) {
             println!("{}: {}\n{}", family.name, found.what, found.case);

@@ -43,6 +43,13 @@ pub enum Case {
         open_values: Vec<u8>,
         written: Written,
     },
+    /// The text of tables and a claim into a buffer of `room` bytes.
+    Write {
+        book: Book,
+        values: Vec<u8>,
+        levels: Vec<u16>,
+        room: usize,
+    },
     /// What the program prints for a text.
     Program {
         text: Vec<u8>,
@@ -57,6 +64,7 @@ impl Case {
             Case::Read { .. } => "read",
             Case::Check { .. } => "check",
             Case::Evaluate { .. } => "evaluate",
+            Case::Write { .. } => "write",
             Case::Program { .. } => "the program",
         }
     }
@@ -68,6 +76,10 @@ impl Case {
 
     pub fn check(book: &Book, values: &[u8], levels: &[u16]) -> Case {
         Case::Check { book: book.clone(), values: values.to_vec(), levels: levels.to_vec() }
+    }
+
+    pub fn write(book: &Book, values: &[u8], levels: &[u16], room: usize) -> Case {
+        Case::Write { book: book.clone(), values: values.to_vec(), levels: levels.to_vec(), room }
     }
 
     pub fn verdict(text: &[u8]) -> Case {
@@ -112,6 +124,12 @@ impl Display for Case {
                 show_list(out, "open values", open_values)?;
                 writeln!(out, "written: {written:?}")?;
                 show_as_text(out, book, &open_form(open_values))
+            }
+            Case::Write { book, values, levels, room } => {
+                show_tables(out, book)?;
+                show_list(out, "values", values)?;
+                show_list(out, "levels", levels)?;
+                writeln!(out, "a buffer of {room} bytes")
             }
         }
     }

@@ -173,6 +173,17 @@ impl Calls for GuardedLibrary {
         after.put_into(tables, answer);
         verdict
     }
+
+    fn write(&self, tables: Tables, values: &[u8], levels: &[u16], text: &mut [u8]) -> u64 {
+        let (answer, written) = self.at_both_edges(|pages, edge| {
+            let tables = pages.tables.lend_to_read(&tables, edge);
+            let (values, levels) = (pages.values.lend_to_read(values, edge), pages.levels.lend_to_read(levels, edge));
+            let text = pages.text.lend_to_write(text, edge);
+            (Library.write(tables, values, levels, text), text.to_vec())
+        });
+        text.copy_from_slice(&written);
+        answer
+    }
 }
 
 fn read_and_see(text: &[u8], mut tables: TablesToFill, answer: &mut [u32]) -> (u32, Contents) {

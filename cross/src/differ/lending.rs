@@ -126,6 +126,13 @@ impl Lending {
                 work: Buffer::arbitrary(written.work, random),
                 ..nothing
             },
+            Case::Write { book, values, levels, room } => Lending {
+                text: Buffer::arbitrary(*room, random),
+                tables: TableBuffers::holding(book, random),
+                values: Buffer::holding(values, random),
+                levels: Buffer::holding(levels, random),
+                ..nothing
+            },
         }
     }
 

@@ -23,6 +23,22 @@ pub fn about(random: &mut Random, read: &Read, marking: Marking) -> Lengths {
     }
 }
 
+/// Just the entries that a text needs.
+pub fn exact(read: &Read) -> Lengths {
+    let book = &read.book;
+    Lengths {
+        rules: book.rules.len(),
+        literals: book.literals.len(),
+        clauses: book.clauses.len(),
+        loads: book.loads.len(),
+        load_literals: book.load_literals.len(),
+        minutes: book.minutes.len(),
+        marks: book.n,
+        values: book.n,
+        levels: book.n,
+    }
+}
+
 /// Mostly enough.
 fn near(random: &mut Random, needed: usize) -> usize {
     match random.below(16) {

@@ -21,6 +21,8 @@ pub mod session;
 mod settings;
 mod shrink;
 pub mod side;
+pub mod textsamples;
+mod written_back;
 
 #[cfg(test)]
 mod tests;

@@ -2,7 +2,7 @@
 
 use super::{case::Case, lending::Lending};
 use crate::{
-    book::{Made, Read, State, Verdict},
+    book::{BookText, Made, Read, State, Verdict},
     calls::PAGE_SIZE,
     solver::Solver,
 };
@@ -16,6 +16,8 @@ pub enum Answer {
     Verdict(u32),
     /// Rounds and verdict, as the C call on an evaluation packs them.
     Made(u64),
+    /// Length and verdict, as the C call on a writing packs them.
+    Written(u64),
     Printed(Vec<u8>),
     /// The length of a report.
     Length(usize),
@@ -27,7 +29,7 @@ impl Answer {
         match self {
             Answer::Verdict(NO_ANSWER) => None,
             Answer::Verdict(packed) => Some(Verdict::unpacked(*packed)),
-            Answer::Made(packed) => Some(Verdict::unpacked(*packed as u32)),
+            Answer::Made(packed) | Answer::Written(packed) => Some(Verdict::unpacked(*packed as u32)),
             Answer::Printed(_) | Answer::Length(_) => None,
         }
     }
@@ -41,6 +43,10 @@ impl Display for Answer {
             Answer::Made(packed) => {
                 show_verdict(out, *packed as u32)?;
                 write!(out, ", rounds {}", packed >> 32)
+            }
+            Answer::Written(packed) => {
+                show_verdict(out, *packed as u32)?;
+                write!(out, ", length {}", packed >> 32)
             }
             Answer::Printed(page) => write!(out, "the page {}", page.escape_ascii()),
             Answer::Length(length) => write!(out, "the length {length}"),
@@ -90,6 +96,7 @@ pub fn expected(solver: &Solver, case: &Case, before: &Lending) -> Outcome {
             let made = solver.evaluate(book, open_values, written.values, written.levels, written.work);
             after_making(&made, &mut after)
         }
+        Case::Write { book, values, levels, room } => after_writing(&solver.write(book, values, levels, *room), &mut after),
     };
     Outcome { answer, after }
 }
@@ -125,4 +132,9 @@ fn after_making(made: &Made, after: &mut Lending) -> Answer {
         after.work.lent_mut().fill(0);
     }
     Answer::Made(u64::from(made.rounds) << 32 | u64::from(made.verdict.packed()))
+}
+
+fn after_writing(written: &BookText, after: &mut Lending) -> Answer {
+    after.text.write(&written.bytes);
+    Answer::Written((written.length as u64) << 32 | u64::from(written.verdict.packed()))
 }

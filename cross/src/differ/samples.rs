@@ -6,12 +6,14 @@ use super::{
 };
 
 /// A text with what the program prints for it.
+#[derive(Clone)]
 pub struct Sample {
     pub name: String,
     pub text: Vec<u8>,
     pub prints: Prints,
 }
 
+#[derive(Clone)]
 pub enum Prints {
     Page(String),
     LastLine(String),

@@ -13,7 +13,7 @@ use crate::{
     calls::PAGE_SIZE,
     solver::Solver,
 };
-use std::collections::BTreeMap;
+use std::{collections::BTreeMap, time::Duration};
 
 /// A difference, with the smallest case that shows it.
 pub struct Found {
@@ -33,11 +33,14 @@ pub struct Session<'a> {
     pub cases: usize,
     /// How many of them had each number as their verdict.
     pub numbers: BTreeMap<u32, usize>,
+    /// How long the smallest case is looked for that shows a difference.
+    pub patience: Duration,
 }
 
 impl<'a> Session<'a> {
     pub fn new(solver: Solver, sides: &[Side<'a>], random: Random, count: usize) -> Session<'a> {
-        Session { solver, sides: sides.to_vec(), random, count, cases: 0, numbers: BTreeMap::new() }
+        let patience = Duration::from_secs(20);
+        Session { solver, sides: sides.to_vec(), random, count, cases: 0, numbers: BTreeMap::new(), patience }
     }
 
     /// Holds every side that has the call against the solver.
@@ -52,7 +55,7 @@ impl<'a> Session<'a> {
         if self.difference(&case, &before, &expected).is_none() {
             return Ok(());
         }
-        let case = smallest(case, |smaller| self.difference_on(smaller, noise).is_some());
+        let case = smallest(case, self.patience, |smaller| self.difference_on(smaller, noise).is_some());
         let what = self.difference_on(&case, noise).expect("the smallest case differs too");
         Err(Box::new(Found { what, case }))
     }

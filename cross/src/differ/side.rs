@@ -55,6 +55,10 @@ fn answer_of_call(calls: &dyn Calls, case: &Case, lent: &mut Lending) -> Option<
             let (values, levels, work) = (lent.values.lent_mut(), lent.levels.lent_mut(), lent.work.lent_mut());
             Some(Answer::Made(calls.evaluate(tables, lent.open_values.lent(), values, levels, work)))
         }
+        Case::Write { book, .. } => {
+            let tables = lent.tables.to_read(book.n);
+            Some(Answer::Written(calls.write(tables, lent.values.lent(), lent.levels.lent(), lent.text.lent_mut())))
+        }
         Case::Program { .. } => None,
     }
 }

@@ -16,6 +16,9 @@ use crate::{
     fast::Fast,
     solver::Solver,
 };
+use std::time::Duration;
+
+const PATIENCE: Duration = Duration::from_secs(20);
 
 const TEXT: &[u8] = b"(atoms 3)\n(rule 0 1)\n(rule 2 (not 0))\n(clause 1 2)\n(load 0 9 (3 0) (4 1))\n(open 1)\n";
 
@@ -52,6 +55,12 @@ impl Calls for OneEntryMore {
         tables.levels[last] = tables.levels[last].wrapping_add(1);
         Fast.read(text, tables, answer)
     }
+
+    fn write(&self, tables: Tables, values: &[u8], levels: &[u16], text: &mut [u8]) -> u64 {
+        let answer = Fast.write(tables, values, levels, text);
+        text.iter_mut().skip((answer >> 32) as usize).take(1).for_each(|byte| *byte = byte.wrapping_add(1));
+        answer
+    }
 }
 
 fn session(side: &dyn Calls) -> Session<'_> {
@@ -68,6 +77,12 @@ fn an_entry_too_many_is_noticed() {
     let book = Book::of_atoms(1);
     let made = session(&OneEntryMore).compare(Case::evaluate(&book, &[0])).expect_err("work was written");
     assert!(made.what.contains("work[0] of 1 is 1 instead of 0"), "{}", made.what);
+    let case = |room| Case::write(&book, &[0], &[0], room);
+    assert!(session(&OneEntryMore).compare(case(24)).is_ok(), "no byte after the text was lent");
+    for room in [23, 25] {
+        let written = session(&OneEntryMore).compare(case(room)).expect_err("a byte that is not of the text was written");
+        assert!(written.what.contains("but afterwards text["), "{}", written.what);
+    }
 }
 
 /// What the solver expects, with one slice changed.
@@ -91,7 +106,7 @@ fn a_changed_slice_that_is_only_read_is_noticed() {
 #[test]
 fn the_smallest_text_has_what_differs_and_no_more() {
     let needed = |case: &Case| matches!(case, Case::Verdict { text } if text.windows(7).any(|part| part == b"(not 0)"));
-    let Case::Verdict { text } = smallest(Case::verdict(TEXT), needed) else { panic!("another call") };
+    let Case::Verdict { text } = smallest(Case::verdict(TEXT), PATIENCE, needed) else { panic!("another call") };
     assert_eq!(text, b"(not 0)");
 }
 
@@ -107,7 +122,9 @@ fn the_smallest_tables_have_what_differs_and_no_more() {
         }
         _ => false,
     };
-    let Case::Check { book, values, .. } = smallest(Case::check(&book, &[0; 4], &[1; 4]), needed) else { panic!("another call") };
+    let Case::Check { book, values, .. } = smallest(Case::check(&book, &[0; 4], &[1; 4]), PATIENCE, needed) else {
+        panic!("another call")
+    };
     assert_eq!(book, Book { rules: vec![1, 0, 1], literals: vec![3], marks: vec![0, 1], ..Book::of_atoms(2) });
     assert_eq!(values.len(), 2);
 }

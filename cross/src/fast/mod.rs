@@ -1,19 +1,21 @@
-//! The five calls in plain Rust, written for speed: what the benchmarks measure the proved library against.
+//! The six calls in plain Rust, written for speed: what the benchmarks measure the proved library against.
 //!
 //! Nothing is allocated and nothing is unsafe. The check is linear, and the maker goes by rounds over all rules, as the library does,
 //! so that a ratio of times compares code with code. The reader reads a text once, into tables of its own, and copies the used parts
-//! out if the text is accepted.
+//! out if the text is accepted. The writer counts the bytes of a text before it puts the first of them.
 
 mod check;
 mod evaluate;
 mod faults;
 mod lines;
 mod page;
+mod printer;
 mod reader;
 mod satisfaction;
 mod scan;
 #[cfg(test)]
 mod tests;
+mod writer;
 
 use crate::book::{Lengths, State, Verdict};
 use crate::calls::{Calls, Tables, TablesToFill, PAGE_SIZE};
@@ -74,6 +76,12 @@ impl Calls for Fast {
                 answer.fill(0);
                 refused.packed()
             }
+        }
+    }
+    fn write(&self, tables: Tables, values: &[u8], levels: &[u16], text: &mut [u8]) -> u64 {
+        match writer::write(tables, values, levels, text) {
+            Ok(length) => (length as u64) << 32,
+            Err(refused) => refused.packed().into(),
         }
     }
 }

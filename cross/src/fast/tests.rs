@@ -2,9 +2,10 @@
 
 use super::Fast;
 use crate::book::{Book, Verdict};
-use crate::calls::{Calls, Library, TablesToFill};
+use crate::calls::{Calls, Library, TablesToFill, TEXT_MAX};
 use crate::random::Random;
 use std::collections::BTreeSet;
+use std::time::{Duration, Instant};
 
 /// Lent to a reader, with content of its own in every entry.
 #[derive(Clone, PartialEq, Debug)]
@@ -248,10 +249,36 @@ fn tables_are_judged_alike() {
         }
         let checked = Fast.check(book.tables(), &values, &levels);
         assert_eq!(checked, Library.check(book.tables(), &values, &levels), "{book:?} {values:?} {levels:?}");
-        met.extend([number(answer as u32), number(checked)]);
+        let room = random.below(300);
+        let written = [&Fast as &dyn Calls, &Library].map(|calls| written(calls, &book, &values, &levels, room));
+        assert_eq!(written[0], written[1], "{book:?} {values:?} {levels:?}, {room} bytes");
+        met.extend([number(answer as u32), number(checked), number(written[0].0 as u32)]);
     }
-    let all = [0].into_iter().chain(11..=17).chain(21..=27).chain([31]);
+    let all = [0].into_iter().chain(11..=17).chain(21..=27).chain([31, 32]);
     assert_eq!(met, all.collect(), "not every number was met");
+}
+
+/// What the writer answers, and all that a buffer of this length then holds.
+fn written(calls: &dyn Calls, book: &Book, values: &[u8], levels: &[u16], room: usize) -> (u64, Vec<u8>) {
+    let mut text = vec![7; room];
+    let answer = calls.write(book.tables(), values, levels, &mut text);
+    (answer, text)
+}
+
+/// 67 million literals: rows are judged by their counts. To walk them takes far longer than is granted here.
+#[test]
+fn rows_that_share_all_literals_are_judged_at_once() {
+    let (rules, clauses) = ([0, 0, 16_384].repeat(2_048), [0, 16_384].repeat(2_048));
+    let book = Book { rules, clauses, literals: vec![0; 16_384], ..Book::of_atoms(1) };
+    for calls in [&Fast as &dyn Calls, &Library] {
+        let time = || {
+            let begun = Instant::now();
+            assert_eq!(written(calls, &book, &[0], &[0], TEXT_MAX).0, 32 << 16);
+            begun.elapsed()
+        };
+        let least = (0..20).map(|_| time()).min();
+        assert!(least < Some(Duration::from_millis(2)), "{} takes {least:?}", calls.name());
+    }
 }
 
 /// The limits of 11, 17 and 31, which small tables do not reach.
@@ -287,6 +314,8 @@ fn sizes_are_judged_alike() {
             let (values, levels) = (vec![0; length], vec![0; length]);
             let checked = [&Fast as &dyn Calls, &Library].map(|calls| calls.check(book.tables(), &values, &levels));
             assert_eq!(checked[0], checked[1]);
+            let written = [&Fast as &dyn Calls, &Library].map(|calls| written(calls, &book, &values, &levels, TEXT_MAX));
+            assert_eq!(written[0], written[1]);
         }
     }
 }

@@ -19,10 +19,19 @@ pub enum Fault {
     MarksOfOtherLengthAs17,
     MarksBeyondTheAtomsCleared,
     UnusedMarksNotAskedFor,
+    LengthOneShort,
+    ByteBeyondCleared,
+    SharedLiteralsCountedOnce,
+    ExactBufferRefused,
+    LongTextWritten,
+    SizeBeforeMarks,
+    WrittenValuesJudged,
+    MinusLost,
+    DeclaredHeadsLeftOut,
 }
 
 impl Fault {
-    pub const ALL: [Fault; 16] = [
+    pub const ALL: [Fault; 25] = [
         Fault::OrderBeforeLimits,
         Fault::FullTableRefused,
         Fault::EmptyRowPastTheEnd,
@@ -39,6 +48,15 @@ impl Fault {
         Fault::MarksOfOtherLengthAs17,
         Fault::MarksBeyondTheAtomsCleared,
         Fault::UnusedMarksNotAskedFor,
+        Fault::LengthOneShort,
+        Fault::ByteBeyondCleared,
+        Fault::SharedLiteralsCountedOnce,
+        Fault::ExactBufferRefused,
+        Fault::LongTextWritten,
+        Fault::SizeBeforeMarks,
+        Fault::WrittenValuesJudged,
+        Fault::MinusLost,
+        Fault::DeclaredHeadsLeftOut,
     ];
 
     pub fn describe(self) -> &'static str {
@@ -61,6 +79,15 @@ impl Fault {
             Fault::MarksOfOtherLengthAs17 => "Marks that are not N are 17, like values and levels.",
             Fault::MarksBeyondTheAtomsCleared => "The reader writes 0 to all lent marks beyond N too.",
             Fault::UnusedMarksNotAskedFor => "A book without declared atoms reads well into fewer than N marks.",
+            Fault::LengthOneShort => "The writer answers a length that is one short.",
+            Fault::ByteBeyondCleared => "The writer clears the byte after the text.",
+            Fault::SharedLiteralsCountedOnce => "Literals that several rows share count once towards 32.",
+            Fault::ExactBufferRefused => "A buffer just as long as the text is refused with 32.",
+            Fault::LongTextWritten => "A text of over 65,535 bytes is written where the buffer holds it.",
+            Fault::SizeBeforeMarks => "32 is looked for before 31, not after it.",
+            Fault::WrittenValuesJudged => "A value that is neither 0 nor 1 is refused with 21, not written.",
+            Fault::MinusLost => "Bounds and minutes are written without their minus.",
+            Fault::DeclaredHeadsLeftOut => "A declared atom that heads a rule is left out of the (defined ..) line.",
         }
     }
 }

@@ -16,6 +16,7 @@ mod reading;
 mod sentences;
 mod stages;
 mod tables;
+mod writing;
 
 #[cfg(test)]
 mod samples;
@@ -27,8 +28,8 @@ pub use fault::Fault;
 use crate::book::Book;
 use decoded::Decoded;
 
-/// The solver. Its calls stand with the rules they follow: `read` in `reading`, `check` in `claim`, `evaluate` in `maker`, and
-/// `verdict` and `report` in `page`.
+/// The solver. Its calls stand with the rules they follow: `read` in `reading`, `check` in `claim`, `evaluate` in `maker`,
+/// `verdict` and `report` in `page`, and `write` in `writing`.
 #[derive(Clone, Copy, Default)]
 pub struct Solver {
     pub fault: Option<Fault>,

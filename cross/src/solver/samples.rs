@@ -426,6 +426,22 @@ fn spoilt_by(fault: Fault, solver: &Solver) -> String {
         Fault::MarksOfOtherLengthAs17 => return checked(solver, Book { marks: vec![], ..Book::of_atoms(1) }, [0]),
         Fault::MarksBeyondTheAtomsCleared => return format!("{:?}", solver.read(open, &Lengths::FULL)),
         Fault::UnusedMarksNotAskedFor => return format!("{:?}", solver.read(open, &Lengths { marks: 0, ..Lengths::FULL })),
+        Fault::LengthOneShort | Fault::ByteBeyondCleared => return written(solver, Book::default(), 0, 100),
+        Fault::ExactBufferRefused => return written(solver, Book::default(), 0, 24),
+        Fault::WrittenValuesJudged => return written(solver, Book::default(), 2, 100),
+        Fault::SizeBeforeMarks => return written(solver, Book { marks: vec![2], ..Book::default() }, 0, 0),
+        Fault::MinusLost => return written(solver, Book { loads: vec![-1, 0, 0, 0], ..Book::default() }, 0, 100),
+        Fault::DeclaredHeadsLeftOut => {
+            return written(solver, Book { rules: vec![0; 3], marks: vec![1], ..Book::default() }, 0, 100)
+        }
+        Fault::SharedLiteralsCountedOnce => {
+            let (rules, clauses) = (vec![0, 0, 8_192], vec![0, 8_193]);
+            return written(solver, Book { rules, clauses, literals: vec![0; 8_193], ..Book::default() }, 0, 100_000);
+        }
+        Fault::LongTextWritten => {
+            let (clauses, literals) = (vec![0, 16_384], vec![1; 16_384]);
+            return written(solver, Book { clauses, literals, ..Book::default() }, 0, 200_000);
+        }
     };
     solver.report(text.as_bytes()).escape_ascii().to_string()
 }
@@ -433,6 +449,12 @@ fn spoilt_by(fault: Fault, solver: &Solver) -> String {
 /// The check of a value at level 1.
 fn checked(solver: &Solver, book: Book, values: [u8; 1]) -> String {
     format!("{:?}", solver.check(&book, &values, &[1]))
+}
+
+/// The text of a book of one atom, which is not declared if there are no marks, and of a claim of this value at level 1.
+fn written(solver: &Solver, book: Book, value: u8, room: usize) -> String {
+    let marks = if book.marks.is_empty() { vec![0] } else { book.marks };
+    format!("{:?}", solver.write(&Book { n: 1, marks, ..book }, &[value], &[1], room))
 }
 
 /// Each deliberate fault shows in a call that is right without it.

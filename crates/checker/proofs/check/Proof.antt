@@ -4,10 +4,10 @@ use mathlib.Core.Path.{_≡_, refl, sym, ap, _∙_}
 use mathlib.Core.List.{_∷_, List·Memᴰ·head, List·Memᴰ·tail}
 use borrow.Author.Needs.{needs}
 use Rattle.tables.specs.Faults.{firstFault}
-use Rattle.tables.specs.Sound.{Tables, lent, tableTests, sliceTest, markCountTest, markTest}
+use Rattle.tables.specs.Sound.{Tables, lent, claimSlices, tableTests, sliceTest, markCountTest, markTest}
 use Rattle.tables.proofs.Faults.{accepted-absent, verdict-refuses, verdict-leaves}
 use Rattle.tables.proofs.SoundTables.{lent-order, slice-refuses, slice-leaves, sized-none, sized-more, marks-refuse, marks-leave}
-use Rattle.checker.specs.Check.{claimTests, claimSlices, checkTests, checkOf}
+use Rattle.checker.specs.Check.{claimTests, checkTests, checkOf}
 use Rattle.checker.proofs.DefinedMarks.{claim-ready}
 use Rattle.checker.proofs.check.Statement.{statement}
 use Rattle.checker.proofs.check.Tie as tie

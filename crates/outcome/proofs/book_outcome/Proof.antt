@@ -3,7 +3,7 @@
 use borrow.Author.Needs.{needs}
 use Rattle.judging.specs.LentTables.{Rules, Literals, Clauses, Loads, LoadLiterals, Minutes, Marks, Values, Levels}
 use Rattle.forms.specs.Contents.{Contents, lentTables}
-use Rattle.outcome.specs.internal.Promises.{usedIn}
+use Rattle.booktext.specs.UsedParts.{usedIn}
 use Rattle.outcome.proofs.OutcomeLaws.{part-few, refused-comes, open-comes, claim-comes}
 use Rattle.outcome.proofs.book_outcome.Statement.{statement}
 use Rattle.outcome.proofs.book_outcome.Tie as tie

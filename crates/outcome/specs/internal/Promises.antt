@@ -2,29 +2,15 @@
 use Prim.Native.Nat.{ℕ, _≤_}
 use mathlib.Core.Path.{_≡_}
 use mathlib.Core.List.{List}
-use lib.ListN.{length, take}
+use lib.ListN.{length}
 use Rattle.tables.specs.declared.Verdict.{Verdict}
 use Rattle.tables.specs.Limits.{maxAtoms}
-use Rattle.judging.specs.LentTables.{Table, Rules, Literals, Clauses, Loads, LoadLiterals, Minutes, Marks, Values, Levels}
+use Rattle.judging.specs.LentTables.{Table}
 use Rattle.forms.specs.Contents.{Contents, over}
 use Rattle.booktext.specs.declared.StateForm.{StateForm}
 use Rattle.booktext.specs.declared.Book.{Book}
+use Rattle.booktext.specs.UsedParts.{usedIn}
 use Rattle.outcome.specs.Outcomes.{TextOutcome}
-
--- How many entries of each table a reader's answer says are used, and those parts of the tables.
-unfoldable pub usedIn : Book → Table → ℕ
-usedIn book Rules = book .rules
-usedIn book Literals = book .literals
-usedIn book Clauses = book .clauses
-usedIn book Loads = book .loads
-usedIn book LoadLiterals = book .terms
-usedIn book Minutes = book .terms
-usedIn book Marks = book .atoms
-usedIn book Values = book .atoms
-usedIn book Levels = book .atoms
-
-unfoldable pub usedParts : Book → Contents → Contents
-usedParts book held table = take (usedIn book table) (held table)
 
 -- A reader's answer fits the tables that it speaks of.
 pub record FitsBook (book : Book) (held : Contents) : Type 0 where

@@ -2,9 +2,10 @@
 -- Assumes nothing.
 use Prim.Native.Nat.{_+_, _-_, _≤_}
 use native.Mathlib.Omega.{arith}
+use Rattle.printing.proofs.PutLaws.{puts-length}
+use Rattle.printing.proofs.Joining.{joined-start}
 use Rattle.page.specs.Pages.{atomsAt}
-use Rattle.page.proofs.PutLaws.{puts-length}
-use Rattle.page.proofs.Listing.{Listed, listed-start, levels-room, levels-put, levels-listed}
+use Rattle.page.proofs.Listing.{Listed, levels-room, levels-put, levels-listed}
 use Rattle.page.proofs.put_atoms.Statement.{statement}
 use Rattle.page.proofs.put_atoms.Tie as tie
 
@@ -15,7 +16,7 @@ abbrev μ-loop : tie.MeasureT-loop
 μ-loop page₀ at values levels rounds next₀ level₀ page next level = rounds + 1 - level
 
 loop-holds : tie.Need-loop-holds Inv-loop μ-loop
-loop-holds c = (omega arith, listed-start _ _ _ _ _)
+loop-holds c = (omega arith, joined-start _ _ _)
 
 put-level-requires : tie.Need-put-level-requires Inv-loop μ-loop
 put-level-requires c κs =

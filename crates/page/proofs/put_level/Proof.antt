@@ -4,9 +4,10 @@ use Prim.Native.Nat.{_-_, _≤_}
 use mathlib.Core.Logic.{⊎-elim}
 use native.Mathlib.Omega.{arith}
 use lib.ListN.{length}
+use Rattle.printing.proofs.PutLaws.{puts-length}
+use Rattle.printing.proofs.Joining.{joined-start}
 use Rattle.page.specs.Pages.{atomAt}
-use Rattle.page.proofs.PutLaws.{puts-length}
-use Rattle.page.proofs.Listing.{Listed, listed-start, atoms-room, atoms-put, atoms-skip, atoms-end}
+use Rattle.page.proofs.Listing.{Listed, atoms-room, atoms-put, atoms-skip, atoms-end}
 use Rattle.page.proofs.put_level.Statement.{statement}
 use Rattle.page.proofs.put_level.Tie as tie
 
@@ -17,7 +18,7 @@ abbrev μ-loop : tie.MeasureT-loop
 μ-loop page₀ at values levels level next₀ atom₀ page next atom = length levels - atom
 
 loop-holds : tie.Need-loop-holds Inv-loop μ-loop
-loop-holds c = (omega arith, listed-start _ _ _ _ _)
+loop-holds c = (omega arith, joined-start _ _ _)
 
 mul-if1 : tie.Need-mul-if1 Inv-loop μ-loop
 mul-if1 c = omega arith
@@ -38,10 +39,12 @@ put-atom-requires : tie.Need-put-atom-requires Inv-loop μ-loop
 put-atom-requires c κs =
     let pre = c .before .before .before .before .before .before .before .before .before .pre in
     let inv = c .before .before .before .before .before .loop .inv in (
-      omega (arith, pre .0 .few),
-      omega (arith, c .shared-slice-known4 .given (c .before .before .before .before .before .loop .atom)),
-      pre .1 .0,
-      atoms-room _ _ _ _ _ _ _ _ (omega arith) (pre .1 .1) (inv .1),
+      (
+        omega (arith, pre .0 .few),
+        omega (arith, c .shared-slice-known4 .given (c .before .before .before .before .before .loop .atom)),
+        pre .1 .0,
+      ),
+      atoms-room _ _ _ _ _ _ _ _ (c .before .before .if1 .taken) (omega arith) (pre .1 .1) (inv .1),
     )
 
 add-atom : tie.Need-add-atom Inv-loop μ-loop

@@ -2,13 +2,16 @@
 -- Assumes nothing.
 use native.Mathlib.Omega.{arith}
 use borrow.Author.Needs.{needs}
+use Rattle.printing.proofs.PutLaws.{puts-length}
 use Rattle.page.proofs.Listing.{page-plain, page-whole}
-use Rattle.page.proofs.Lengths.{page-room}
+use Rattle.page.proofs.Lengths.{length-plain, length-whole}
 use Rattle.page.proofs.put_page.Statement.{statement}
 use Rattle.page.proofs.put_page.Tie as tie
 
 put-verdict-requires : tie.Need-put-verdict-requires
-put-verdict-requires c κs = search needs
+put-verdict-requires c κs =
+    let start = c .before .before .before .before .before in
+    (start .pre .1 .0, omega (arith, length-plain (start .args .made) (start .args .verdict) (start .args .rounds) (start .args .values .now) (start .args .levels .now) (c .before .if1 .taken), start .pre .1 .2))
 
 same-length : tie.Need-same-length
 same-length c = search needs
@@ -17,19 +20,24 @@ returns : tie.Need-returns
 returns c = page-plain _ _ _ _ _ (c .before .before .before .before .if1 .taken) (c .before .before .put-verdict .ensures)
 
 put-made-requires : tie.Need-put-made-requires
-put-made-requires c κs = search needs
+put-made-requires c κs =
+    let start = c .before .before .before .before .before in
+    (omega (arith, start .pre .1 .1), omega (arith, length-whole (start .args .made) (start .args .verdict) (start .args .rounds) (start .args .values .now) (start .args .levels .now) (c .before .if1 .left), start .pre .1 .2))
 
 put-atoms-requires : tie.Need-put-atoms-requires
 put-atoms-requires c κs =
     let start = c .before .before .before .before .before .before .before .before .before in
-    let room = page-room _ _ (start .args .rounds) (c .before .before .before .before .before .before .before .shared-slice-known .given) (c .before .before .before .before .before .before .shared-slice-known2 .given) (start .pre .0) (start .pre .1 .1) in
-    (start .pre .0, (omega (arith, start .pre .1 .1), omega (arith, c .before .before .before .put-made .ensures .answered)))
+    let long = length-whole (start .args .made) (start .args .verdict) (start .args .rounds) (start .args .values .now) (start .args .levels .now) (c .before .before .before .before .before .if1 .left) in
+    let counted = c .before .before .before .put-made .ensures in
+    (start .pre .0, (omega (arith, start .pre .1 .1), omega (arith, long, start .pre .1 .2, counted .answered, puts-length counted)))
 
 put-verdict-requires-2 : tie.Need-put-verdict-requires-2
 put-verdict-requires-2 c κs =
     let start = c .before .before .before .before .before .before .before .before .before .before .before .before .before in
-    let room = page-room _ _ (start .args .rounds) (c .before .before .before .before .before .before .before .before .before .before .before .shared-slice-known .given) (c .before .before .before .before .before .before .before .before .before .before .shared-slice-known2 .given) (start .pre .0) (start .pre .1 .1) in
-    (start .pre .1 .0, omega (arith, c .before .before .before .before .before .before .before .put-made .ensures .answered, c .before .before .before .put-atoms .ensures .answered))
+    let long = length-whole (start .args .made) (start .args .verdict) (start .args .rounds) (start .args .values .now) (start .args .levels .now) (c .before .before .before .before .before .before .before .before .before .if1 .left) in
+    let counted = c .before .before .before .before .before .before .before .put-made .ensures in
+    let listed = c .before .before .before .put-atoms .ensures in
+    (start .pre .1 .0, omega (arith, long, start .pre .1 .2, counted .answered, puts-length counted, listed .answered, puts-length listed))
 
 same-length-2 : tie.Need-same-length-2
 same-length-2 c = search needs

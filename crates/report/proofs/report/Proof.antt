@@ -50,7 +50,8 @@ part-put-page-end-2 c =
     search needs
 
 put-page-requires : tie.Need-put-page-requires
-put-page-requires c κs = let p = printable _ _ _ (c .before .before .before .before .before .before .before .before .before .outcome-of .ensures) in (p .0, (p .1, p .2))
+put-page-requires c κs =
+    printable _ _ _ (c .before .before .before .before .before .before .before .before .before .outcome-of .ensures) _ _ (c .before .before .before .before .before .before .before .before .before .before .before .before .if1 .left)
 
 same-length : tie.Need-same-length
 same-length c = search needs

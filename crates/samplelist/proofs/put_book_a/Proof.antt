@@ -1,7 +1,8 @@
 -- `samplelist::put_book_a` meets its contract: the book, and the state form behind it.
 -- Assumes nothing.
+use native.Mathlib.Omega.{arith}
 use borrow.Author.Needs.{needs}
-use Rattle.page.proofs.PutLaws.{puts-then}
+use Rattle.printing.proofs.PutLaws.{puts-then, puts-length}
 use Rattle.samplelist.specs.Samples.{bookA, bytes}
 use Rattle.samplelist.proofs.put_book_a.Statement.{statement}
 use Rattle.samplelist.proofs.put_book_a.Tie as tie
@@ -10,10 +11,12 @@ slice-aggregate-put : tie.Need-slice-aggregate-put
 slice-aggregate-put c = search needs
 
 put-requires : tie.Need-put-requires
-put-requires c κs = search needs
+unfolding bookA bytes
+put-requires c κs = omega (arith, c .before .before .before .before .pre)
 
 put-requires-2 : tie.Need-put-requires-2
-put-requires-2 c κs = search needs
+unfolding bookA bytes
+put-requires-2 c κs = omega (arith, c .before .before .before .before .before .before .before .before .pre, c .before .before .before .put .ensures .answered, puts-length (c .before .before .before .put .ensures))
 
 same-length : tie.Need-same-length
 same-length c = search needs

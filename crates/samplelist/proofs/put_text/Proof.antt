@@ -1,9 +1,10 @@
 -- `samplelist::put_text` meets its contract: each arm puts the text that the list has at its place.
 -- Assumes nothing.
 use mathlib.Core.Path.{refl}
+use native.Mathlib.Omega.{arith}
 use borrow.Author.Needs.{needs}
 use Rattle.samplelist.specs.Samples.{bytes, prints, samples, texts, textAt}
-use Rattle.samplelist.proofs.SampleLaws.{put-as, last}
+use Rattle.samplelist.proofs.SampleLaws.{put-as, book-room, last}
 use Rattle.samplelist.proofs.put_text.Statement.{statement}
 use Rattle.samplelist.proofs.put_text.Tie as tie
 
@@ -11,73 +12,73 @@ slice-aggregate-put-book-a : tie.Need-slice-aggregate-put-book-a
 slice-aggregate-put-book-a c = search needs
 
 put-book-a-requires : tie.Need-put-book-a-requires
-put-book-a-requires c κs = search needs
+put-book-a-requires c κs = book-room _ _ (omega arith) (c .before .before .before .before .pre .1)
 
 slice-aggregate-put-book-a-2 : tie.Need-slice-aggregate-put-book-a-2
 slice-aggregate-put-book-a-2 c = search needs
 
 put-book-a-requires-2 : tie.Need-put-book-a-requires-2
-put-book-a-requires-2 c κs = search needs
+put-book-a-requires-2 c κs = book-room _ _ (omega arith) (c .before .before .before .before .pre .1)
 
 slice-aggregate-put-book-a-3 : tie.Need-slice-aggregate-put-book-a-3
 slice-aggregate-put-book-a-3 c = search needs
 
 put-book-a-requires-3 : tie.Need-put-book-a-requires-3
-put-book-a-requires-3 c κs = search needs
+put-book-a-requires-3 c κs = book-room _ _ (omega arith) (c .before .before .before .before .pre .1)
 
 slice-aggregate-put-book-a-4 : tie.Need-slice-aggregate-put-book-a-4
 slice-aggregate-put-book-a-4 c = search needs
 
 put-book-a-requires-4 : tie.Need-put-book-a-requires-4
-put-book-a-requires-4 c κs = search needs
+put-book-a-requires-4 c κs = book-room _ _ (omega arith) (c .before .before .before .before .pre .1)
 
 slice-aggregate-put : tie.Need-slice-aggregate-put
 slice-aggregate-put c = search needs
 
 put-requires : tie.Need-put-requires
-put-requires c κs = search needs
+put-requires c κs = omega (arith, c .before .before .before .before .pre .1)
 
 slice-aggregate-put-2 : tie.Need-slice-aggregate-put-2
 slice-aggregate-put-2 c = search needs
 
 put-requires-2 : tie.Need-put-requires-2
-put-requires-2 c κs = search needs
+put-requires-2 c κs = omega (arith, c .before .before .before .before .pre .1)
 
 slice-aggregate-put-3 : tie.Need-slice-aggregate-put-3
 slice-aggregate-put-3 c = search needs
 
 put-requires-3 : tie.Need-put-requires-3
-put-requires-3 c κs = search needs
+put-requires-3 c κs = omega (arith, c .before .before .before .before .pre .1)
 
 slice-aggregate-put-4 : tie.Need-slice-aggregate-put-4
 slice-aggregate-put-4 c = search needs
 
 put-requires-4 : tie.Need-put-requires-4
-put-requires-4 c κs = search needs
+put-requires-4 c κs = omega (arith, c .before .before .before .before .pre .1)
 
 slice-aggregate-put-5 : tie.Need-slice-aggregate-put-5
 slice-aggregate-put-5 c = search needs
 
 put-requires-5 : tie.Need-put-requires-5
-put-requires-5 c κs = search needs
+put-requires-5 c κs = omega (arith, c .before .before .before .before .pre .1)
 
 slice-aggregate-put-6 : tie.Need-slice-aggregate-put-6
 slice-aggregate-put-6 c = search needs
 
 put-requires-6 : tie.Need-put-requires-6
-put-requires-6 c κs = search needs
+put-requires-6 c κs = omega (arith, c .before .before .before .before .pre .1)
 
 slice-aggregate-put-7 : tie.Need-slice-aggregate-put-7
 slice-aggregate-put-7 c = search needs
 
 put-requires-7 : tie.Need-put-requires-7
-put-requires-7 c κs = search needs
+put-requires-7 c κs = omega (arith, c .before .before .before .before .pre .1)
 
 slice-aggregate-put-8 : tie.Need-slice-aggregate-put-8
 slice-aggregate-put-8 c = search needs
 
 put-requires-8 : tie.Need-put-requires-8
-put-requires-8 c κs = search needs
+put-requires-8 c κs = omega (arith, c .before .before .before .before .pre .1)
 
 same-length : tie.Need-same-length
 same-length c = search needs
@@ -161,7 +162,7 @@ same-length-12 c = search needs
 
 returns-12 : tie.Need-returns-12
 unfolding textAt texts samples prints bytes
-returns-12 c = put-as (last _ (c .before .before .before .before .before .before .before .pre) (c .before .before .before .before .before .match .rest)) refl (c .before .before .put8 .ensures)
+returns-12 c = put-as (last _ (c .before .before .before .before .before .before .before .pre .0) (c .before .before .before .before .before .match .rest)) refl (c .before .before .put8 .ensures)
 
 pub put-text-spec : {M : Type 1} → statement M
 put-text-spec =

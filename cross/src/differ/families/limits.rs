@@ -22,12 +22,24 @@ pub fn compare_all(session: &mut Session) -> Compared {
     short_tables(session)
 }
 
+/// The texts that stand at a limit.
+pub fn texts() -> Vec<Vec<u8>> {
+    numbers().iter().chain(&counts()).map(|limit| limit.text(&limit.at)).collect()
+}
+
+impl Limit {
+    /// The text with these lines, and with a state form if they have none.
+    fn text(&self, lines: &str) -> Vec<u8> {
+        let state = if lines.contains("(open") || lines.contains("(claim") { "" } else { "(open)\n" };
+        format!("{}{lines}{state}", self.before).into_bytes()
+    }
+}
+
 fn compare_limit(session: &mut Session, limit: &Limit) -> Compared {
-    let ends = |lines: &str| if lines.contains("(open") || lines.contains("(claim") { "" } else { "(open)\n" };
-    let at = format!("{}{}{}", limit.before, limit.at, ends(&limit.at)).into_bytes();
+    let at = limit.text(&limit.at);
     session.text(&at)?;
     session.stated("at a limit", Case::read(&at, Lengths::FULL), Verdict::ACCEPTED)?;
-    let past = format!("{}{}{}", limit.before, limit.past, ends(&limit.past)).into_bytes();
+    let past = limit.text(&limit.past);
     session.text(&past)?;
     let line = past_line(limit);
     session.stated("past a limit", Case::read(&past, Lengths::FULL), Verdict::refused(2, line))

@@ -7,6 +7,7 @@ mod pages;
 mod small;
 mod tables;
 mod texts;
+mod written;
 
 use super::{
     books::Marking,
@@ -47,8 +48,10 @@ impl Family {
     }
 }
 
-/// `refusals` are the texts of docs/REFUSALS.md.
-pub fn all(refusals: Vec<Sample>) -> Vec<Family> {
+/// `refusals` are the texts of docs/REFUSALS.md, `examples` the books of examples/, `claims` those of the program textsamples.
+pub fn all(refusals: Vec<Sample>, examples: Vec<Vec<u8>>, claims: Vec<Vec<u8>>) -> Vec<Family> {
+    let samples = [samples::of_the_paper(), readings::texts::all(), readings::declared::texts(), refusals.clone()].concat();
+    let texts: Vec<Vec<u8>> = samples.into_iter().map(|sample| sample.text).chain(limits::texts()).chain(examples).collect();
     vec![
         Family::new(0, "samples of the paper", |session| compare_samples(session, &samples::of_the_paper())),
         Family::new(1, "texts of docs/REFUSALS.md", move |session| compare_samples(session, &refusals)),
@@ -60,6 +63,9 @@ pub fn all(refusals: Vec<Sample>) -> Vec<Family> {
             compare_samples(session, &readings::declared::texts())?;
             readings::declared::compare_all(session)
         }),
+        Family::new(17, "readings on books written back", readings::written::compare_all),
+        Family::new(18, "samples and examples written back", move |session| written::texts(session, &texts)),
+        Family::new(22, "claims of textsamples written back", move |session| written::texts(session, &claims)),
         Family::new(3, "every small book", |session| small::compare_all(session, Marking::None)),
         Family::marked(11, "every small book with marks", small::compare_all),
         Family::new(4, "random books", |session| books::compare_all(session, Marking::None)),
@@ -73,6 +79,9 @@ pub fn all(refusals: Vec<Sample>) -> Vec<Family> {
         Family::marked(15, "unsound tables with marks", tables::compare_all),
         Family::new(9, "pages of the program", |session| pages::compare_all(session, Marking::None)),
         Family::marked(16, "pages of the program with marks", pages::compare_all),
+        Family::new(19, "tables written back", written::sound_tables),
+        Family::new(20, "unsound tables written back", written::unsound_tables),
+        Family::new(21, "texts written back", written::random_texts),
     ]
 }
 

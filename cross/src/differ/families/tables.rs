@@ -15,11 +15,7 @@ use crate::{
 pub fn compare_all(session: &mut Session, marking: Marking) -> Compared {
     for round in 0..session.count {
         let random = &mut session.random;
-        let mut book = if round % 4 == 0 { arbitrary(random) } else { overlapping(random) };
-        for _ in 0..random.pick(&[0, 0, 1, 1, 2]) {
-            damage(random, &mut book);
-        }
-        book.marks = marks(random, book.n, marking);
+        let book = careless(random, round, marking);
         let open_values = setting(random, &book);
         let mut length = || slice_length(random, book.n);
         let written = Written { values: length(), levels: length(), work: length() };
@@ -32,6 +28,16 @@ pub fn compare_all(session: &mut Session, marking: Marking) -> Compared {
         Marking::None => extreme_sizes(session),
         Marking::Some => extreme_marks(session),
     }
+}
+
+/// Tables with no fault, one or several, as the round has it.
+pub fn careless(random: &mut Random, round: usize, marking: Marking) -> Book {
+    let mut book = if round.is_multiple_of(4) { arbitrary(random) } else { overlapping(random) };
+    for _ in 0..random.pick(&[0, 0, 1, 1, 2]) {
+        damage(random, &mut book);
+    }
+    book.marks = marks(random, book.n, marking);
+    book
 }
 
 /// Sound tables whose rows were laid down consecutively and then moved about: over each other, with unused places between.
@@ -199,7 +205,7 @@ fn claim(random: &mut Random, n: usize, made: Option<Claim>) -> Claim {
     }
 }
 
-fn arbitrary_claim(random: &mut Random, n: usize) -> Claim {
+pub fn arbitrary_claim(random: &mut Random, n: usize) -> Claim {
     let highest = random.pick(&[2, 2, 2, 256]);
     let values = (0..slice_length(random, n)).map(|_| random.below(highest) as u8).collect();
     let levels = (0..slice_length(random, n)).map(|_| random.pick(&[0, 1, 1, 1, 2, 2, 3])).collect();

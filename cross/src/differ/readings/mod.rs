@@ -3,3 +3,4 @@
 pub mod declared;
 pub mod tables;
 pub mod texts;
+pub mod written;

@@ -4,20 +4,21 @@ mod tables;
 mod texts;
 
 use super::case::Case;
-use crate::book::{Book, Lengths};
+use crate::{
+    book::{Book, Lengths},
+    solver::Solver,
+};
 use std::{
     iter,
     ops::Range,
     time::{Duration, Instant},
 };
 
-/// A difference is reported after this time, however small the case then is.
-const PATIENCE: Duration = Duration::from_secs(20);
-
 type Smaller<'a, T> = Box<dyn Iterator<Item = T> + 'a>;
 
-pub fn smallest(case: Case, differs: impl Fn(&Case) -> bool) -> Case {
-    let deadline = Instant::now() + PATIENCE;
+/// After so much patience the case is answered that is the smallest by then.
+pub fn smallest(case: Case, patience: Duration, differs: impl Fn(&Case) -> bool) -> Case {
+    let deadline = Instant::now() + patience;
     let mut smallest = case;
     loop {
         let in_time = || Instant::now() < deadline;
@@ -39,7 +40,8 @@ fn smaller(case: &Case) -> Smaller<'_, Case> {
             let texts = texts::smaller(text).map(|text| Case::Read { text, lent: *lent, answer: *answer });
             Box::new(texts.chain(fuller(lent).map(|lent| Case::Read { text: text.clone(), lent, answer: *answer })))
         }
-        Case::Check { book, values, levels } => Box::new(smaller_check(book, values, levels)),
+        Case::Check { book, values, levels } => Box::new(smaller_claims(book, values, levels, Case::check)),
+        Case::Write { book, values, levels, room } => smaller_writing(book, values, levels, *room),
         Case::Evaluate { book, open_values, written } => {
             let tables =
                 tables::smaller(book).map(|book| Case::Evaluate { book, open_values: open_values.clone(), written: *written });
@@ -52,13 +54,31 @@ fn smaller(case: &Case) -> Smaller<'_, Case> {
     }
 }
 
-fn smaller_check<'a>(book: &'a Book, values: &'a [u8], levels: &'a [u16]) -> Smaller<'a, Case> {
-    let tables = tables::smaller(book).map(|book| Case::check(&book, values, levels));
-    let values_smaller = smaller_numbers(values).map(|values| Case::check(book, &values, levels));
-    let levels_smaller = smaller_numbers(levels).map(|levels| Case::check(book, values, &levels));
+/// Cases of a call that is lent tables and a claim.
+fn smaller_claims<'a>(
+    book: &'a Book,
+    values: &'a [u8],
+    levels: &'a [u16],
+    case: impl Fn(&Book, &[u8], &[u16]) -> Case + Copy + 'a,
+) -> Smaller<'a, Case> {
+    let tables = tables::smaller(book).map(move |book| case(&book, values, levels));
+    let values_smaller = smaller_numbers(values).map(move |values| case(book, &values, levels));
+    let levels_smaller = smaller_numbers(levels).map(move |levels| case(book, values, &levels));
     let atoms = tables::without_an_atom(book).filter(|_| values.len() == book.n && levels.len() == book.n);
-    let atoms = atoms.map(|(atom, book)| Case::check(&book, &without(values, atom..atom + 1), &without(levels, atom..atom + 1)));
+    let atoms = atoms.map(move |(atom, book)| case(&book, &without(values, atom..atom + 1), &without(levels, atom..atom + 1)));
     Box::new(atoms.chain(tables).chain(values_smaller).chain(levels_smaller))
+}
+
+/// The buffer becomes shorter as the text does, so that it stays as much too short or too long; and just as long as the text.
+fn smaller_writing<'a>(book: &'a Book, values: &'a [u8], levels: &'a [u16], room: usize) -> Smaller<'a, Case> {
+    let length = |book: &Book, values: &[u8], levels: &[u16]| Solver::default().write(book, values, levels, usize::MAX).length;
+    let whole = length(book, values, levels);
+    let case = move |book: &Book, values: &[u8], levels: &[u16]| {
+        let saved = whole.saturating_sub(length(book, values, levels));
+        Case::write(book, values, levels, room.saturating_sub(saved))
+    };
+    let exact = (room > whole).then(|| Case::write(book, values, levels, whole));
+    Box::new(smaller_claims(book, values, levels, case).chain(exact))
 }
 
 /// Tables of full size say less than others, so each length that is not needed becomes that.

@@ -1,0 +1,2 @@
+-- What the round trips of the reader and the writer keep.
+pub mod RoundTrips
