@@ -19,7 +19,7 @@ use Rattle.wellfounded.proofs.Reaches.{Reaches, reaches-start, reaches-turn, re
 use Rattle.wellfounded.proofs.Literals.{value-beyond}
 use Rattle.tables.specs.Rows.{ruleCount, ruleHead}
 use Rattle.tables.specs.internal.Marks.{isMarked}
-use Rattle.tables.proofs.MarkLaws.{set-again}
+use Rattle.tables.proofs.MarkLaws.{head-left, head-put, head-again}
 use Rattle.founding.specs.internal.Founding.{rowFounds, foundRow, foundRows, foundPass, foundStart, foundAll, unmarked, PassDone}
 
 -- ── The marks to begin with ──
@@ -50,48 +50,22 @@ unmarked-set marks head l new =
 
 -- ── A row and a pass ──
 
--- The code's row, which reads the head first.
-module _ (rules literals state marks : List ℕ) (row head : ℕ) (is : head ≡ ruleHead rules row) where
-  -- A row whose head is marked changes nothing,
-  pub found-row-again : getD marks head 0 ≡ 1 → marks ≡ foundRow rules literals state marks row
-  unfolding foundRow
-  found-row-again e = rw (← is, set-again marks head e) (step (rowFounds rules literals state marks row))
-    where
-      step : (b : Bool) → marks ≡ cond b marks marks
-      step true = refl
-      step false = refl
-
-  -- nor does one that does not found it,
-  pub found-row-none :
-      {founds : Bool} → founds ≡ rowFounds rules literals state marks row → founds ≡ false →
-      marks ≡ foundRow rules literals state marks row
-  unfolding foundRow
-  found-row-none so e = rw (← so, e)
-
-  -- and one that founds it marks it.
-  pub found-row-puts :
-      {founds : Bool} → founds ≡ rowFounds rules literals state marks row → founds ≡ true →
-      set marks head 1 ≡ foundRow rules literals state marks row
-  unfolding foundRow
-  found-row-puts so e = rw (← so, e, is)
-
-  -- In all, a row changes nothing, or leaves fewer unmarked.
-  row-settles-at : (foundRow rules literals state marks row ≡ marks) ⊎ (unmarked (foundRow rules literals state marks row) < unmarked marks)
-  row-settles-at =
-      ⊎-elim
-      (λ (founds : rowFounds rules literals state marks row ≡ true).
-      ⊎-elim (λ (here : eqb (getD marks head 0) 1 ≡ true). inl (sym (found-row-again (eqb-true _ _ here))))
-      (λ (new : eqb (getD marks head 0) 1 ≡ false).
-      ⊎-elim (λ (beyond : length marks ≤ head). inl (sym (found-row-puts refl founds) ∙ set-out marks head 1 beyond))
-      (λ (l : head < length marks). inr (rw (← found-row-puts refl founds) (omega (arith, unmarked-set marks head l (eqb-false _ _ new)))))
-      (le-or-lt (length marks) head)) (decided (eqb (getD marks head 0) 1)))
-      (λ (none : rowFounds rules literals state marks row ≡ false). inl (sym (found-row-none refl none)))
-      (decided (rowFounds rules literals state marks row))
-
 module _ (rules literals state : List ℕ) where
+  -- A row changes nothing, or leaves fewer unmarked.
   row-settles :
       (marks : List ℕ) (row : ℕ) → (foundRow rules literals state marks row ≡ marks) ⊎ (unmarked (foundRow rules literals state marks row) < unmarked marks)
-  row-settles marks row = row-settles-at rules literals state marks row (ruleHead rules row) refl
+  unfolding foundRow
+  row-settles marks row =
+      ⊎-elim
+      (λ (founds : rowFounds rules literals state marks row ≡ true).
+      ⊎-elim (λ (here : eqb (getD marks (ruleHead rules row) 0) 1 ≡ true). inl (sym (head-again marks _ _ (eqb-true _ _ here))))
+      (λ (new : eqb (getD marks (ruleHead rules row) 0) 1 ≡ false).
+      ⊎-elim (λ (beyond : length marks ≤ ruleHead rules row). inl (sym (head-put marks _ _ founds) ∙ set-out marks (ruleHead rules row) 1 beyond))
+      (λ (l : ruleHead rules row < length marks).
+      inr (rw (← head-put marks _ _ founds) (omega (arith, unmarked-set marks (ruleHead rules row) l (eqb-false _ _ new)))))
+      (le-or-lt (length marks) (ruleHead rules row))) (decided (eqb (getD marks (ruleHead rules row) 0) 1)))
+      (λ (none : rowFounds rules literals state marks row ≡ false). inl (sym (head-left marks _ _ none)))
+      (decided (rowFounds rules literals state marks row))
 
   rows-settle :
       (marks : List ℕ) (n : ℕ) → (foundRows rules literals state marks n ≡ marks) ⊎ (unmarked (foundRows rules literals state marks n) < unmarked marks)
@@ -129,12 +103,13 @@ module _ {rules literals state before : List ℕ} where
   passed-start = record { is = refl; fewer = omega arith; long = refl }
 
   pub passed-turn :
-      (n marked more : ℕ) (marks after : List ℕ) → after ≡ foundRow rules literals state marks n → more + unmarked after ≡ unmarked marks →
-      length after ≡ length marks → PassedTo rules literals state before n marks marked →
-      PassedTo rules literals state before (n + 1) after (marked + more)
+      (n marked now : ℕ) (new : Bool) (marks after : List ℕ) → after ≡ foundRow rules literals state marks n →
+      cond new 1 0 + unmarked after ≡ unmarked marks → length after ≡ length marks → now ≡ cond new 1 0 + marked →
+      PassedTo rules literals state before n marks marked →
+      PassedTo rules literals state before (n + 1) after now
   unfolding foundRows
-  passed-turn n marked more marks after e few long p =
-      record { is = rw add-one (e ∙ ap (λ (m : List ℕ). foundRow rules literals state m n) (p .is)); fewer = omega arith; long = long ∙ p .long }
+  passed-turn n marked now new marks after e few long so p =
+      record { is = rw add-one (e ∙ ap (λ (m : List ℕ). foundRow rules literals state m n) (p .is)); fewer = omega (arith, p .fewer); long = long ∙ p .long }
 
   pub passed-end :
       {n : ℕ} (marks : List ℕ) (marked : ℕ) → n ≡ ruleCount rules → PassedTo rules literals state before n marks marked →

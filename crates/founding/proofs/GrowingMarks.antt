@@ -15,7 +15,8 @@ use Rattle.wellfounded.specs.Literals.{isHeld, valueAt, atomOf, isNegated, lite
 use Rattle.wellfounded.proofs.Tests.{decided, both, first, second, either, or-left, or-right}
 use Rattle.wellfounded.proofs.Lists.{all-use, all-make, le-or-lt}
 use Rattle.tables.specs.Rows.{ruleHead}
-use Rattle.tables.specs.internal.Marks.{isMarked}
+use Rattle.tables.specs.internal.Marks.{isMarked, markHead}
+use Rattle.tables.proofs.MarkLaws.{head-put}
 use Rattle.founding.specs.internal.Founding.{founds, rowFounds, foundRow, foundRows}
 
 -- Marks w are as many as v, and where they differ there is a mark.
@@ -48,10 +49,10 @@ put-entry w h a = ⊎-elim (λ e. here (eqb-true a h e)) (λ n. inl (getD-set-ot
 
 module _ (rules literals s : List ℕ) where
   row-grown : (w : List ℕ) (row : ℕ) → Grown w (foundRow rules literals s w row)
-  unfolding foundRow
+  unfolding foundRow markHead
   row-grown w row = step (rowFounds rules literals s w row)
     where
-      step : (b : Bool) → Grown w (cond b (set w (ruleHead rules row) 1) w)
+      step : (b : Bool) → Grown w (markHead b (ruleHead rules row) w)
       step true = record { long = length-set w _ 1; only = λ a. ⊎-elim (λ e. inl e) (λ e. inr (e .1)) (put-entry w _ a) }
       step false = grown-refl w
 
@@ -60,16 +61,16 @@ module _ (rules literals s : List ℕ) where
       (w : List ℕ) (row : ℕ) → ruleHead rules row < length w → rowFounds rules literals s w row ≡ true →
       isMarked (foundRow rules literals s w row) (ruleHead rules row) ≡ true
   unfolding foundRow isMarked
-  row-marks-head w row l h = rw h (eq-eqb _ _ (getD-set-same w (ruleHead rules row) 1 0 l))
+  row-marks-head w row l h = rw (← head-put w _ _ h) (eq-eqb _ _ (getD-set-same w (ruleHead rules row) 1 0 l))
 
   -- and no other atom.
   pub row-from :
       (w : List ℕ) (row a : ℕ) → isMarked (foundRow rules literals s w row) a ≡ true →
       (isMarked w a ≡ true) ⊎ ((rowFounds rules literals s w row ≡ true) × (ruleHead rules row ≡ a))
-  unfolding foundRow isMarked
+  unfolding foundRow markHead isMarked
   row-from w row a h = step (rowFounds rules literals s w row) refl h
     where
-      step : (b : Bool) → rowFounds rules literals s w row ≡ b → eqb (getD (cond b (set w (ruleHead rules row) 1) w) a 0) 1 ≡ true →
+      step : (b : Bool) → rowFounds rules literals s w row ≡ b → eqb (getD (markHead b (ruleHead rules row) w) a 0) 1 ≡ true →
           (eqb (getD w a 0) 1 ≡ true) ⊎ ((rowFounds rules literals s w row ≡ true) × (ruleHead rules row ≡ a))
       step true e t = ⊎-elim (λ same. inl (rw same at t)) (λ new. inr (e, new .0)) (put-entry w (ruleHead rules row) a)
       step false e t = inl t

@@ -8,7 +8,7 @@ ghost use Rattle.wellfounded.specs.Literals.{atomOf, isTrue, valueAt, bodyAt};
 ghost use Rattle.wellfounded.specs.internal.Scans.{Scannable};
 ghost use Rattle.tables.specs.Rows.{ruleCount};
 ghost use Rattle.tables.specs.internal.Marks.{isMarked};
-ghost use Rattle.founding.specs.internal.Founding.{founds, rowFounds, foundRow, unmarked, PassDone, foundStart, foundAll, Markable};
+ghost use Rattle.founding.specs.internal.Founding.{founds, foundRow, unmarked, PassDone, foundStart, foundAll, Markable};
 use tables::rows::rule_count;
 use tables::rows::rule_head;
 use tables::rows::rule_size;
@@ -17,18 +17,14 @@ use wellfounded::atom_of;
 use wellfounded::is_negated;
 use wellfounded::literal_false;
 
-// Whether the literal leaves its rule's head founded: not false, and if positive then on a founded atom.
+// Whether the literal leaves its rule's head founded: not false, and if positive then on a founded atom. Both sides of `&` and `|` are
+// evaluated, so that the machine code has no branch on the sign, which follows no pattern.
 fn literal_founds(literal: u16, values: &[u8], founded: &[u8]) -> bool
     requires { ⌜ (atomOf literal < length (now values)) × (atomOf literal < length (now founded)) ⌝ }
     ensures { λ r. ⌜ r ≡ founds (now (values .entry)) (now (founded .entry)) literal ⌝ }
 {
-    if literal_false(literal, values) {
-        return false;
-    }
-    if is_negated(literal) {
-        return true;
-    }
-    founded[atom_of(literal)] == 1
+    let atom = atom_of(literal);
+    !literal_false(literal, values) & (is_negated(literal) | (founded[atom] == 1))
 }
 
 // Whether the first `size` literals all leave the head founded.
@@ -54,41 +50,26 @@ fn body_founds(literals: &[u16], start: usize, size: usize, values: &[u8], found
     literals_found(&literals[start..], size, values, founded)
 }
 
-// Whether the row marks its head: it is undecided, and the body leaves it founded.
-fn row_founds(rules: &[u16], row: usize, literals: &[u16], values: &[u8], founded: &[u8]) -> bool
+// Looks at one row: marks its head if the row founds it and it is not marked yet. Answers whether it marked it. The head's value and
+// its kind, which is its mark here, tell first whether the body matters.
+fn found_row(rules: &[u16], row: usize, literals: &[u16], values: &[u8], founded: &mut [u8]) -> bool
     requires { ⌜ (row < ruleCount (now rules)) × Markable (now rules) (now literals) (now values) (now founded) ⌝ }
-    ensures { λ r. ⌜ r ≡ rowFounds (now (rules .entry)) (now (literals .entry)) (now (values .entry)) (now (founded .entry)) row ⌝ }
+    ensures { λ r. ⌜ (now (founded .exit) ≡ foundRow (now (rules .entry)) (now (literals .entry)) (now (values .entry)) (now (founded .entry)) row)
+        × (cond r 1 0 + unmarked (now (founded .exit)) ≡ unmarked (now (founded .entry))) ⌝ }
 {
     let head = rule_head(rules, row);
-    if values[head] < 2 {
+    let value = values[head];
+    let mark = founded[head];
+    if value < 2 || mark == 1 {
         return false;
     }
     let start = rule_start(rules, row);
     let size = rule_size(rules, row);
-    body_founds(literals, start, size, values, founded)
-}
-
-// Marks the row's head if the row founds it and it is not marked yet; answers how many atoms it marked.
-fn found_row(
-    rules: &[u16],
-    row: usize,
-    literals: &[u16],
-    values: &[u8],
-    founded: &mut [u8],
-) -> usize
-    requires { ⌜ (row < ruleCount (now rules)) × Markable (now rules) (now literals) (now values) (now founded) ⌝ }
-    ensures { λ r. ⌜ (now (founded .exit) ≡ foundRow (now (rules .entry)) (now (literals .entry)) (now (values .entry)) (now (founded .entry)) row)
-        × (r + unmarked (now (founded .exit)) ≡ unmarked (now (founded .entry))) ⌝ }
-{
-    let head = rule_head(rules, row);
-    if founded[head] == 1 {
-        return 0;
-    }
-    if row_founds(rules, row, literals, values, founded) {
+    if body_founds(literals, start, size, values, founded) {
         founded[head] = 1;
-        return 1;
+        return true;
     }
-    0
+    false
 }
 
 // One pass over the rules; answers how many atoms it marked.
@@ -100,7 +81,9 @@ fn found_pass(rules: &[u16], literals: &[u16], values: &[u8], founded: &mut [u8]
     let mut marked = 0;
     let mut row = 0;
     while row < rows {
-        marked += found_row(rules, row, literals, values, founded);
+        if found_row(rules, row, literals, values, founded) {
+            marked += 1;
+        }
         row += 1;
     }
     marked

@@ -2,9 +2,8 @@
 ghost use mathlib.Core.Path.{_≡_};
 ghost use Prim.Native.Nat.{_<_};
 ghost use lib.ListN.{length};
-ghost use Rattle.tables.specs.Rows.{ruleCount};
-ghost use Rattle.tables.specs.internal.Scans.{RulesScannable};
-ghost use Rattle.tables.specs.internal.Marks.{markWhere};
+ghost use Rattle.tables.specs.Rows.{ruleCount, ruleHead};
+ghost use Rattle.tables.specs.internal.Marks.{markWhere, markHead};
 ghost use Rattle.founding.specs.internal.Founding.{Markable};
 ghost use Rattle.rounds.specs.internal.Firing.{rowFires, firesBy};
 ghost use Rattle.rounds.specs.internal.Deciding.{Decidable, AtomDecided, RoundDecided};
@@ -20,18 +19,24 @@ pub struct Changed {
     pub renewed: bool,
 }
 
-// Whether the row makes its head true: the head is undecided, and the body is all true.
-fn row_fires(rules: &[u16], row: usize, literals: &[u16], values: &[u8]) -> bool
-    requires { ⌜ (row < ruleCount (now rules)) × RulesScannable (now rules) (now literals) (length (now values)) ⌝ }
-    ensures { λ r. ⌜ r ≡ rowFires (now (rules .entry)) (now (literals .entry)) (now (values .entry)) row ⌝ }
+// Looks at one row: marks its head if the row makes it true and it is not marked yet. The head's value and its kind, which is its mark
+// here, tell first whether the body matters.
+fn fire_row(rules: &[u16], row: usize, literals: &[u16], values: &[u8], firing: &mut [u16])
+    requires { ⌜ (row < ruleCount (now rules)) × Markable (now rules) (now literals) (now values) (now firing) ⌝ }
+    ensures { λ r. ⌜ now (firing .exit) ≡ markHead (rowFires (now (rules .entry)) (now (literals .entry)) (now (values .entry)) row)
+        (ruleHead (now (rules .entry)) row) (now (firing .entry)) ⌝ }
 {
     let head = rule_head(rules, row);
-    if values[head] < 2 {
-        return false;
+    let value = values[head];
+    let mark = firing[head];
+    if value < 2 || mark == 1 {
+        return;
     }
     let start = rule_start(rules, row);
     let size = rule_size(rules, row);
-    body_true(literals, start, size, values)
+    if body_true(literals, start, size, values) {
+        firing[head] = 1;
+    }
 }
 
 // Marks the undecided atoms that a rule makes true.
@@ -43,9 +48,7 @@ pub fn mark_firing(rules: &[u16], literals: &[u16], values: &[u8], firing: &mut 
     let rows = rule_count(rules);
     let mut row = 0;
     while row < rows {
-        if row_fires(rules, row, literals, values) {
-            firing[rule_head(rules, row)] = 1;
-        }
+        fire_row(rules, row, literals, values, firing);
         row += 1;
     }
 }

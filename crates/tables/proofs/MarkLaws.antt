@@ -12,12 +12,12 @@ use lib.ListN.{length, getD, set, length-set, replicate, length-replicate, getD-
 use lib.Seq.{ext-getD, getD-set-same, getD-set-other, set-getD}
 use borrow.Author.Tests.{eqb-true, eqb-false, eq-eqb, ne-eqb, lt-ltb, le-ltb}
 use Rattle.wellfounded.specs.Lists.{anyBelow}
-use Rattle.wellfounded.specs.Literals.{isTrue, valueAt}
+use Rattle.wellfounded.specs.Literals.{isTrue, isHeld, valueAt}
 use Rattle.wellfounded.proofs.Lists.{length-tabulate, getD-tabulate, getD-default}
 use Rattle.wellfounded.proofs.Literals.{true-test, held-at}
 use Rattle.wellfounded.proofs.Tests.{decided, both, or-right, or-none, and-left, and-right}
 use Rattle.tables.specs.Rows.{headsRule, isDeclared, definedBy}
-use Rattle.tables.specs.internal.Marks.{isMarked, markWhere, Copied, TellsDefined}
+use Rattle.tables.specs.internal.Marks.{isMarked, markWhere, markHead, Copied, TellsDefined}
 use Rattle.tables.specs.Values.{notHeld}
 
 pub mark-length : (passes : ℕ → Bool) (marks : List ℕ) → length (markWhere passes marks) ≡ length marks
@@ -78,6 +78,41 @@ mark-one earlier later marks head now others =
 pub set-again : (marks : List ℕ) (head : ℕ) → getD marks head 0 ≡ 1 → set marks head 1 ≡ marks
 set-again marks head marked = subst (λ (v : ℕ). set marks head v ≡ marks) marked (set-getD marks head 0)
 
+-- What a look at a row makes of the marks. A row that does not pass leaves them,
+module _ (marks : List ℕ) (passes : Bool) (head : ℕ) where
+  pub head-left : passes ≡ false → marks ≡ markHead passes head marks
+  unfolding markHead
+  head-left e = rw e
+
+  -- one that passes marks its head,
+  pub head-put : passes ≡ true → set marks head 1 ≡ markHead passes head marks
+  unfolding markHead
+  head-put e = rw e
+
+  -- and if the head is marked, whether the row passes does not matter.
+  pub head-again : getD marks head 0 ≡ 1 → marks ≡ markHead passes head marks
+  head-again marked =
+      ⊎-elim (λ (t : passes ≡ true). sym (set-again marks head marked) ∙ head-put t) (λ (f : passes ≡ false). head-left f) (decided passes)
+
+-- The same of a row that passes if its head is undecided and its body passes. What is known there is the value and the mark of the head
+-- that the code has read, and that it is the row's atom.
+module _ (state marks : List ℕ) (head atom : ℕ) (is : head ≡ atom) (body : Bool) where
+  -- If the head is decided or marked, the body does not matter;
+  pub look-decided : head < length state → getD state head 0 < 2 → marks ≡ markHead (not (isHeld (valueAt state atom)) && body) atom marks
+  look-decided within l = head-left marks _ atom (rw (← is, held-at state head within, lt-ltb _ _ l))
+
+  pub look-again : getD marks head 0 ≡ 1 → marks ≡ markHead (not (isHeld (valueAt state atom)) && body) atom marks
+  look-again marked = head-again marks _ atom (rw is at marked)
+
+  -- otherwise it decides.
+  pub look-fails : body ≡ false → marks ≡ markHead (not (isHeld (valueAt state atom)) && body) atom marks
+  look-fails e = head-left marks _ atom (and-right (not (isHeld (valueAt state atom))) body e)
+
+  pub look-marks :
+      head < length state → 2 ≤ getD state head 0 → body ≡ true →
+      set marks head 1 ≡ markHead (not (isHeld (valueAt state atom)) && body) atom marks
+  look-marks within l e = rw is (head-put marks _ atom (rw (← is, held-at state head within, le-ltb _ _ l, e)))
+
 -- The loop has passed n rows: an atom is marked if one of them passes the test with it, or if it was marked before.
 pub record Marked (p : ℕ → ℕ → Bool) (before : List ℕ) (n : ℕ) (marks : List ℕ) : Type 0 where
   pub is : marks ≡ markWhere (λ atom. anyBelow n (λ row. p row atom)) before
@@ -123,13 +158,20 @@ module _ (heads : ℕ → ℕ) (passes : ℕ → Bool) (before : List ℕ) (n : 
       Marked (λ row atom. eqb (heads row) atom && passes row) before (n + 1) marks
   row-passes h m = marked-pass _ before n marks (λ atom. and-right (eqb (heads n) atom) _ h) m
 
+  -- In both cases the marks are those after a look at the row.
+  pub marked-look :
+      Marked (λ row atom. eqb (heads row) atom && passes row) before n marks →
+      Marked (λ row atom. eqb (heads row) atom && passes row) before (n + 1) (markHead (passes n) (heads n) marks)
+  marked-look m =
+      ⊎-elim (λ (t : passes n ≡ true). rw (← head-put marks _ (heads n) t) (row-puts (heads n) refl t m))
+      (λ (f : passes n ≡ false). rw (← head-left marks _ (heads n) f) (row-passes f m))
+      (decided (passes n))
+
   -- If its head is marked, whether it passes does not matter.
   pub row-again :
       (head : ℕ) → head ≡ heads n → getD marks head 0 ≡ 1 → Marked (λ row atom. eqb (heads row) atom && passes row) before n marks →
       Marked (λ row atom. eqb (heads row) atom && passes row) before (n + 1) marks
-  row-again head e marked m =
-      ⊎-elim (λ (t : passes n ≡ true). rw (set-again marks head marked) at (row-puts head e t m)) (λ (f : passes n ≡ false). row-passes f m)
-      (decided (passes n))
+  row-again head e marked m = rw (← head-again marks (passes n) (heads n) (rw e at marked)) at (marked-look m)
 
 -- With the heads marked beside marks that were copied, marks tell what rules and marks define.
 pub defined-marks :

@@ -1,6 +1,7 @@
 -- `founding::found_pass` meets its contract: the marks are those that the rows passed make of the entry's, and so many are new.
 -- Assumes nothing.
 use Prim.Native.Nat.{_-_, _≤_}
+use mathlib.Core.Logic.{⊎-elim}
 use native.Mathlib.Omega.{arith}
 use borrow.Author.Needs.{needs}
 use Rattle.founding.proofs.FoundingLaws.{unmarked-le, PassedTo, passed-start, passed-turn, passed-end}
@@ -26,7 +27,7 @@ found-row-requires c κs =
     (omega arith, record { rows = pre .rows; room = omega (arith, pre .room) })
 
 add-marked : tie.Need-add-marked Inv-loop μ-loop
-add-marked c = omega (arith, unmarked-le (c .before .before .before .before .before .before .before .before .before .before .before .args .founded .now))
+add-marked c = omega (arith, c .before .before .before .before .before .before .loop .inv .1 .fewer, unmarked-le (c .before .before .before .before .before .before .before .before .before .before .before .before .args .founded .now))
 
 add-row : tie.Need-add-row Inv-loop μ-loop
 add-row c = omega arith
@@ -36,8 +37,12 @@ loop-less c = omega arith
 
 loop-again : tie.Need-loop-again Inv-loop μ-loop
 loop-again c =
-    let row = c .before .before .found-row in
-    (omega arith, passed-turn _ _ _ _ _ (row .ensures .0) (row .ensures .1) (row .kept .1 .1 .1 .1 .0) (c .before .before .before .before .before .loop .inv .1))
+    let row = c .before .before .before .found-row in (
+      omega arith,
+      passed-turn _ _ _ (row .result) _ _ (row .ensures .0) (row .ensures .1) (row .kept .1 .1 .1 .1 .0)
+          (⊎-elim (λ w. rw (w .0 .taken) (omega (arith, w .1))) (λ w. rw (w .0 .left) (omega (arith, w .1))) (c .if1 .came))
+          (c .before .before .before .before .before .before .loop .inv .1),
+    )
 
 same-length : tie.Need-same-length Inv-loop μ-loop
 same-length c = c .before .loop .inv .1 .long

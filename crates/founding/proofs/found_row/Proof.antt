@@ -1,44 +1,72 @@
--- `founding::found_row` meets its contract: a head that is marked, or that the row does not found, leaves the marks as they are.
+-- `founding::found_row` meets its contract: it marks nothing if the head is decided or marked, or if the body does not found it.
 -- Assumes nothing.
+use mathlib.Core.Path.{sym, _∙_}
+use mathlib.Core.Logic.{⊎-elim}
 use native.Mathlib.Omega.{arith}
 use borrow.Author.Needs.{needs}
-use Rattle.founding.proofs.FoundingLaws.{unmarked-set, found-row-again, found-row-none, found-row-puts}
+use borrow.Author.Tests.{eqb-true, eqb-false}
+use Rattle.tables.specs.Rows.{ruleBody}
+use Rattle.tables.proofs.MarkLaws.{look-decided, look-again, look-fails, look-marks}
+use Rattle.founding.specs.internal.Founding.{rowFounds, foundRow}
+use Rattle.founding.proofs.FoundingLaws.{unmarked-set}
 use Rattle.founding.proofs.found_row.Statement.{statement}
 use Rattle.founding.proofs.found_row.Tie as tie
 
 rule-head-requires : tie.Need-rule-head-requires
 rule-head-requires c κs = search needs
 
-slice-read-if1 : tie.Need-slice-read-if1
-slice-read-if1 c = let pre = c .before .before .before .before .before .before .pre in omega (arith, pre .1 .rows .heads _ (pre .0))
+shared-slice-read-value : tie.Need-shared-slice-read-value
+shared-slice-read-value c = let pre = c .before .before .before .before .before .before .pre in omega (arith, pre .1 .rows .heads _ (pre .0))
+
+slice-read-mark : tie.Need-slice-read-mark
+slice-read-mark c = let pre = c .before .before .before .before .before .before .before .pre in omega (arith, pre .1 .rows .heads _ (pre .0))
 
 returns : tie.Need-returns
-returns c = (found-row-again _ _ _ _ _ _ (c .before .before .rule-head .ensures .is) (c .if1 .taken), omega arith)
+unfolding foundRow rowFounds
+returns c =
+    let pre = c .before .before .before .before .before .before .before .before .pre in
+    let within = pre .1 .rows .heads _ (pre .0) in
+    let head = c .before .before .before .rule-head .ensures .is in (
+      ⊎-elim (λ w. look-decided _ _ _ _ head _ (omega arith) (omega (arith, w .taken))) (λ w. look-again _ _ _ _ head _ (eqb-true _ _ (w .1 .taken))) (c .if1 .came),
+      omega arith,
+    )
 
-row-founds-requires : tie.Need-row-founds-requires
-row-founds-requires c κs = search needs
+rule-start-requires : tie.Need-rule-start-requires
+rule-start-requires c κs = search needs
+
+rule-size-requires : tie.Need-rule-size-requires
+rule-size-requires c κs = search needs
+
+body-founds-requires : tie.Need-body-founds-requires
+body-founds-requires c κs =
+    let pre = c .before .before .before .before .before .before .before .before .before .before .before .before .pre in
+    (record { within = omega (arith, pre .1 .rows .within _ (pre .0)); known = pre .1 .rows .known }, pre .1 .room)
 
 slice-write-founded : tie.Need-slice-write-founded
-slice-write-founded c =
-    let pre = c .before .before .before .before .before .before .before .before .before .before .pre in
-    omega (arith, pre .1 .rows .heads _ (pre .0))
+slice-write-founded c = let pre = c .before .before .before .before .before .before .before .before .before .before .before .before .before .before .pre in omega (arith, pre .1 .rows .heads _ (pre .0))
 
 same-length : tie.Need-same-length
 same-length c = search needs
 
 returns-2 : tie.Need-returns-2
+unfolding foundRow rowFounds ruleBody
 returns-2 c =
-    let pre = c .before .before .before .before .before .before .before .before .before .before .pre in (
-      found-row-puts _ _ _ _ _ _ (c .before .before .before .before .before .rule-head .ensures .is) (c .before .row-founds .ensures) (c .if2 .taken),
-      unmarked-set _ _ (omega (arith, pre .1 .rows .heads _ (pre .0))) (c .before .before .before .if1 .left),
+    let pre = c .before .before .before .before .before .before .before .before .before .before .before .before .before .before .pre in
+    let within = pre .1 .rows .heads _ (pre .0) in
+    let head = c .before .before .before .before .before .before .before .before .before .rule-head .ensures .is in (
+      rw (← c .before .before .before .before .rule-start .ensures .is, ← c .before .before .before .rule-size .ensures .is)
+          (look-marks _ _ _ _ head _ (omega arith) (omega arith) (sym (c .before .body-founds .ensures) ∙ c .if3 .taken)),
+      unmarked-set _ _ (omega arith) (eqb-false _ _ (c .before .before .before .before .before .if2 .left)),
     )
 
 same-length-2 : tie.Need-same-length-2
 same-length-2 c = search needs
 
 returns-3 : tie.Need-returns-3
+unfolding foundRow rowFounds ruleBody
 returns-3 c = (
-  found-row-none _ _ _ _ _ _ (c .before .before .before .before .before .rule-head .ensures .is) (c .before .row-founds .ensures) (c .if2 .left),
+  rw (← c .before .before .before .before .rule-start .ensures .is, ← c .before .before .before .rule-size .ensures .is)
+      (look-fails _ _ _ _ (c .before .before .before .before .before .before .before .before .before .rule-head .ensures .is) _ (sym (c .before .body-founds .ensures) ∙ c .if3 .left)),
   omega arith,
 )
 
@@ -47,9 +75,12 @@ found-row-spec =
     tie.close
     (tie.spec
     rule-head-requires
-    slice-read-if1
+    shared-slice-read-value
+    slice-read-mark
     returns
-    row-founds-requires
+    rule-start-requires
+    rule-size-requires
+    body-founds-requires
     slice-write-founded
     same-length
     returns-2

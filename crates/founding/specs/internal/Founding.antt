@@ -3,14 +3,14 @@ use Prim.Native.Nat.{ℕ, zero, suc, _+_, _≤_, _<_}
 use mathlib.Core.Path.{_≡_}
 use mathlib.Core.Bool.{Bool, not, cond, _&&_, _||_}
 use mathlib.Core.List.{List}
-use lib.ListN.{length, set}
+use lib.ListN.{length}
 use Rattle.wellfounded.specs.Lists.{all, tabulate, iterate, count}
 use Rattle.wellfounded.specs.Literals.{isTrue, isHeld, valueAt, atomOf, isNegated, literalFalse}
 use Rattle.wellfounded.specs.Definitions.{Definition}
 use Rattle.wellfounded.specs.Unfounded.{member, largest}
 use Rattle.tables.specs.Rows.{ruleCount, ruleHead, ruleBody}
 use Rattle.tables.specs.internal.Scans.{RulesScannable}
-use Rattle.tables.specs.internal.Marks.{isMarked}
+use Rattle.tables.specs.internal.Marks.{isMarked, markHead}
 
 -- A literal that leaves its rule's head founded: not false, and if positive then on a founded atom.
 unfoldable pub founds : List ℕ → List ℕ → ℕ → Bool
@@ -22,7 +22,7 @@ rowFounds rules literals state marks row =
     not (isHeld (valueAt state (ruleHead rules row))) && all (founds state marks) (ruleBody rules literals row)
 
 unfoldable pub foundRow : List ℕ → List ℕ → List ℕ → List ℕ → ℕ → List ℕ
-foundRow rules literals state marks row = cond (rowFounds rules literals state marks row) (set marks (ruleHead rules row) 1) marks
+foundRow rules literals state marks row = markHead (rowFounds rules literals state marks row) (ruleHead rules row) marks
 
 -- A pass over the first n rows; each row sees the marks of the rows before it.
 unfoldable pub foundRows : List ℕ → List ℕ → List ℕ → List ℕ → ℕ → List ℕ

@@ -4,7 +4,7 @@ use mathlib.Core.Path.{_≡_}
 use mathlib.Core.Bool.{Bool, cond}
 use mathlib.Core.List.{List}
 use lib.Dec.{eqb}
-use lib.ListN.{length, getD}
+use lib.ListN.{length, getD, set}
 use Rattle.wellfounded.specs.Lists.{tabulate}
 use Rattle.tables.specs.Rows.{definedBy}
 
@@ -15,6 +15,10 @@ isMarked marks atom = eqb (getD marks atom 0) 1
 -- The marks with 1 put at every atom that passes the test.
 unfoldable pub markWhere : (ℕ → Bool) → List ℕ → List ℕ
 markWhere passes marks = tabulate (length marks) (λ atom. cond (passes atom) 1 (getD marks atom 0))
+
+-- The marks after a look at a row: 1 is put at its head if the row passes, and else they stay.
+unfoldable pub markHead : Bool → ℕ → List ℕ → List ℕ
+markHead passes head marks = cond passes (set marks head 1) marks
 
 -- A book's marks that were copied to the front of others, with nothing asked of what lies beyond.
 pub record Copied (marks before now : List ℕ) : Type 0 where

@@ -1,14 +1,12 @@
 -- `rounds::rounds::mark_firing` meets its contract: the marks are those of the entry with the atoms that the rows passed make true put on.
 -- Assumes nothing.
 use Prim.Native.Nat.{_-_, _≤_}
-use mathlib.Core.Path.{sym, _∙_}
 use mathlib.Core.Bool.{_&&_}
-use mathlib.Core.Logic.{⊎-elim}
 use native.Mathlib.Omega.{arith}
 use lib.Dec.{eqb}
 use borrow.Author.Needs.{needs}
 use Rattle.tables.specs.Rows.{ruleHead}
-use Rattle.tables.proofs.MarkLaws.{Marked, marked-start, marked-end, row-puts, row-passes}
+use Rattle.tables.proofs.MarkLaws.{Marked, marked-start, marked-end, marked-look}
 use Rattle.rounds.specs.internal.Firing.{rowFires, firesBy}
 use Rattle.rounds.proofs.rounds.mark_firing.Statement.{statement}
 use Rattle.rounds.proofs.rounds.mark_firing.Tie as tie
@@ -26,19 +24,10 @@ rule-count-requires c κs = search needs
 loop-holds : tie.Need-loop-holds Inv-loop μ-loop
 loop-holds c = (omega arith, marked-start _ _)
 
-row-fires-requires : tie.Need-row-fires-requires Inv-loop μ-loop
-row-fires-requires c κs = (omega arith, c .before .before .before .before .before .before .before .pre .rows)
-
-rule-head-requires : tie.Need-rule-head-requires Inv-loop μ-loop
-rule-head-requires c κs = omega arith
-
-mul-firing : tie.Need-mul-firing Inv-loop μ-loop
-mul-firing c = omega arith
-
-slice-write-firing : tie.Need-slice-write-firing Inv-loop μ-loop
-slice-write-firing c =
-    let pre = c .before .before .before .before .before .before .before .before .before .before .pre in
-    omega (arith, pre .rows .heads (c .before .before .before .before .loop .row) (omega arith))
+fire-row-requires : tie.Need-fire-row-requires Inv-loop μ-loop
+fire-row-requires c κs =
+    let pre = c .before .before .before .before .before .before .before .before .pre in
+    (omega arith, record { rows = pre .rows; room = omega (arith, pre .room, c .before .before .loop .inv .1 .long) })
 
 add-row : tie.Need-add-row Inv-loop μ-loop
 add-row c = omega arith
@@ -47,13 +36,7 @@ loop-less : tie.Need-loop-less Inv-loop μ-loop
 loop-less c = omega arith
 
 loop-again : tie.Need-loop-again Inv-loop μ-loop
-loop-again c = (
-  omega arith,
-  ⊎-elim
-      (λ w. rw (w .2) (row-puts _ _ _ _ _ _ (w .1 .ensures .is) (sym (c .before .row-fires .ensures) ∙ w .0 .taken) (c .before .before .before .loop .inv .1)))
-      (λ w. rw (w .1) (row-passes _ _ _ _ _ (sym (c .before .row-fires .ensures) ∙ w .0 .left) (c .before .before .before .loop .inv .1)))
-      (c .if1 .came),
-)
+loop-again c = (omega arith, rw (c .before .before .fire-row .ensures) (marked-look _ _ _ _ _ (c .before .before .before .before .before .loop .inv .1)))
 
 same-length : tie.Need-same-length Inv-loop μ-loop
 same-length c = c .before .loop .inv .1 .long
@@ -70,10 +53,7 @@ mark-firing-spec =
     μ-loop
     rule-count-requires
     loop-holds
-    row-fires-requires
-    rule-head-requires
-    mul-firing
-    slice-write-firing
+    fire-row-requires
     add-row
     loop-less
     loop-again
