@@ -25,8 +25,8 @@
 
 /* The version of this header. Before 1.0 each minor version may change the calls. */
 #define BATTENPLUM_VERSION_MAJOR 0
-#define BATTENPLUM_VERSION_MINOR 3
-#define BATTENPLUM_VERSION "0.3"
+#define BATTENPLUM_VERSION_MINOR 4
+#define BATTENPLUM_VERSION "0.4"
 
 /* For functions defined in this header: inline where the language has it, and no warning if unused. */
 #if defined(__cplusplus) || (defined(__STDC_VERSION__) && __STDC_VERSION__ >= 199901L)

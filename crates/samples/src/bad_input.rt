@@ -275,11 +275,20 @@ fn run_clauses() {
     clause_row(b"clause-of-a-false-literal", 1, 0, 1);
 }
 
-// Minutes rounded to tenths of an hour, and bounds that nothing is between.
+// Minutes halfway between two tenths of an hour, which count as the even one; the last line asks for the odd one and is refused.
+fn run_halves() {
+    load_row(b"tenths-of-3-minutes", 0, 0, 0, 1, 3);
+    load_row(b"tenths-of-minus-3-minutes", 0, 0, 0, 1, -3);
+    load_row(b"tenths-of-9-minutes", 2, 2, 0, 1, 9);
+    load_row(b"tenths-of-minus-9-minutes", -2, -2, 0, 1, -9);
+    load_row(b"tenths-of-15-minutes", 2, 2, 0, 1, 15);
+    load_row(b"odd-tenth-of-3-minutes", 1, 1, 0, 1, 3);
+}
+
+// Minutes nearer to one tenth than to any other, and bounds that nothing is between.
 fn run_loads() {
-    load_row(b"tenths-of-3-minutes", 1, 1, 0, 1, 3);
-    load_row(b"tenths-of-minus-3-minutes", -1, -1, 0, 1, -3);
     load_row(b"tenths-of-2-minutes", 1, 1, 0, 1, 2);
+    load_row(b"tenths-of-4-minutes", 1, 1, 0, 1, 4);
     load_row(b"low-above-high", 1, 0, 0, 0, 6);
 }
 
@@ -292,5 +301,6 @@ pub fn run_bad_input() {
     run_bad_loads();
     run_bad_claims();
     run_clauses();
+    run_halves();
     run_loads();
 }

@@ -4,3 +4,4 @@ pub mod LoadLaws
 pub mod Satisfied
 pub mod Positions
 pub mod Computes
+pub mod Worked

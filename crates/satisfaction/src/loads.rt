@@ -16,12 +16,12 @@ use tables::load_rows::load_start;
 use tables::load_rows::within_bounds;
 use wellfounded::literal_true;
 
-// Whole tenths of an hour: the nearest, a half going up. The one place of the tie rule.
+// Whole tenths of an hour: the nearest, of two equally near the even one. The one place of the tie rule.
 fn round_tenth(minutes: u32) -> u32
     requires { ⌜ minutes ≤ 32768 ⌝ }
     ensures { λ r. ⌜ r ≡ roundTenth minutes ⌝ }
 {
-    (minutes + 3) / 6
+    (minutes + 2 + minutes / 6 % 2) / 6
 }
 
 // A number of minutes without its sign.

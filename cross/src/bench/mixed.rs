@@ -115,6 +115,6 @@ fn add_load(book: &mut Book, model: &Claim, terms: usize, random: &mut Random) {
     let term = |random: &mut Random| (random.below(2_881) as i16 - 1_440, random.below(2 * book.n) as u16);
     let terms: Vec<(i16, u16)> = (0..terms).map(|_| term(random)).collect();
     let counted = terms.iter().filter(|term| holds(model, term.1));
-    let sum: i32 = counted.map(|term| (f64::from(term.0) / 6.0).round() as i32).sum();
+    let sum: i32 = counted.map(|term| (f64::from(term.0) / 6.0).round_ties_even() as i32).sum();
     book.add_load(sum - random.below(100) as i32, sum + random.below(100) as i32, &terms);
 }

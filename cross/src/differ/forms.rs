@@ -24,10 +24,12 @@ impl Load {
     }
 }
 
-/// The nearest whole tenth of an hour, a half going away from zero.
-fn tenths(minutes: i16) -> i32 {
-    let size = (i32::from(minutes.abs()) + 3) / 6;
-    size * i32::from(minutes.signum())
+/// The nearest whole tenth of an hour, of two equally near the even one: a list of what 0 to 11 minutes count, and twelve minutes more
+/// count two more.
+pub fn tenths(minutes: i16) -> i32 {
+    const FIRST: [i32; 12] = [0, 0, 0, 0, 1, 1, 1, 1, 1, 2, 2, 2];
+    let minutes = i32::from(minutes);
+    2 * minutes.div_euclid(12) + FIRST[minutes.rem_euclid(12) as usize]
 }
 
 /// With values of 0 and 1.

@@ -112,7 +112,7 @@ fn also_run() -> Vec<Sample> {
 
 /// The counts that the paper names, each as the only sum that a load line lets pass.
 fn rounding() -> Vec<Sample> {
-    let counts = [(3, 1), (2, 0), (15, 3), (-3, -1), (-2, 0), (-15, -3), (60, 10), (0, 0)];
+    let counts = [(3, 0), (9, 2), (15, 2), (-3, 0), (-9, -2), (2, 0), (-2, 0), (-15, -2), (60, 10), (0, 0)];
     let sample = |(minutes, count): (i32, i32)| {
         let text = format!("(atoms 1)\n(load {count} {count} ({minutes} 0))\n(open 0)\n");
         Sample::last_line(&format!("{minutes} counts {count}"), text, "(accepted)")

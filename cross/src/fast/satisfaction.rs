@@ -34,8 +34,9 @@ fn holds(literal: u16, values: &[u8]) -> bool {
     u16::from(values[usize::from(literal / 2)]) != literal % 2
 }
 
-/// Minutes in tenths of an hour: the nearest, a half away from zero.
+/// Minutes in tenths of an hour: the nearest, of two equally near the even one. With 36,000 minutes more, which are 6,000 tenths, an even
+/// number, none is below 0, so that the sign takes no branch.
 fn tenths(minutes: i16) -> i32 {
-    let minutes = i32::from(minutes);
-    (minutes + 3 * minutes.signum()) / 6
+    let more = (i32::from(minutes) + 36_000) as u32;
+    ((more + 2 + more / 6 % 2) / 6) as i32 - 6_000
 }

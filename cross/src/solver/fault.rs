@@ -12,6 +12,10 @@ pub enum Fault {
     HeadReportedForRow,
     MutualSupport,
     TruncatedTenths,
+    HalfAwayFromZero,
+    HalfTowardZero,
+    HalfToTheOddTenth,
+    SignLostAtAHalf,
     UndecidedPrintedLast,
     MarksIgnored,
     DeclaredHeadsCountedTwice,
@@ -31,7 +35,7 @@ pub enum Fault {
 }
 
 impl Fault {
-    pub const ALL: [Fault; 25] = [
+    pub const ALL: [Fault; 29] = [
         Fault::OrderBeforeLimits,
         Fault::FullTableRefused,
         Fault::EmptyRowPastTheEnd,
@@ -41,6 +45,10 @@ impl Fault {
         Fault::HeadReportedForRow,
         Fault::MutualSupport,
         Fault::TruncatedTenths,
+        Fault::HalfAwayFromZero,
+        Fault::HalfTowardZero,
+        Fault::HalfToTheOddTenth,
+        Fault::SignLostAtAHalf,
         Fault::UndecidedPrintedLast,
         Fault::MarksIgnored,
         Fault::DeclaredHeadsCountedTwice,
@@ -72,6 +80,10 @@ impl Fault {
                 "Atoms that rest only on each other are never made false together, just those that rest on themselves."
             }
             Fault::TruncatedTenths => "Minutes are counted in tenths by division that truncates.",
+            Fault::HalfAwayFromZero => "Of two equally near tenths the one further from 0 counts, as before version 0.4.",
+            Fault::HalfTowardZero => "Of two equally near tenths the one nearer to 0 counts.",
+            Fault::HalfToTheOddTenth => "Of two equally near tenths the odd one counts.",
+            Fault::SignLostAtAHalf => "Minutes below 0 and halfway between two tenths count as those above 0 do.",
             Fault::UndecidedPrintedLast => "Undecided atoms are printed after all others, not at level 0.",
             Fault::MarksIgnored => "A declared atom without a rule is open.",
             Fault::DeclaredHeadsCountedTwice => "D counts an atom twice that is declared and heads a rule.",

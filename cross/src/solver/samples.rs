@@ -379,8 +379,8 @@ fn sentences_at_fault() {
     assert_eq!(verdict("(atoms 1)\n(clause 0 (not 0))\n(clause)\n(open)\n"), (26, 1));
     assert_eq!(verdict("(atoms 1)\n(clause 0)\n(load 1 0)\n(open)\n"), (26, 0));
     assert_eq!(verdict("(atoms 1)\n(load 0 0)\n(load 1 0)\n(open)\n"), (27, 1));
-    assert_eq!(verdict("(atoms 1)\n(load 2 2 (3 0) (3 0))\n(open 0)\n"), (0, 0));
-    assert_eq!(verdict("(atoms 1)\n(load -1 -1 (-3 (not 0)) (1440 0))\n(open)\n"), (0, 0));
+    assert_eq!(verdict("(atoms 1)\n(load 0 0 (3 0) (3 0))\n(open 0)\n"), (0, 0));
+    assert_eq!(verdict("(atoms 1)\n(load -2 -2 (-9 (not 0)) (1440 0))\n(open)\n"), (0, 0));
     assert_eq!(verdict("(atoms 0)\n(clause)\n(claim)\n"), (26, 0));
     assert_eq!(report("(atoms 0)\n(open)\n"), "(made 0)\n(accepted)\n");
     assert_eq!(report("(atoms 0)\n(claim)\n"), "(accepted)\n");
@@ -417,7 +417,9 @@ fn spoilt_by(fault: Fault, solver: &Solver) -> String {
         Fault::NegatedBlockerNoHigher => "(atoms 2)\n(rule 0 (not 1))\n(rule 1)\n(claim (0 1) (1 1))\n",
         Fault::HeadReportedForRow => "(atoms 2)\n(rule 1)\n(claim (0 0) (0 1))\n",
         Fault::MutualSupport => "(atoms 2)\n(rule 0 1)\n(rule 1 0)\n(open)\n",
-        Fault::TruncatedTenths => "(atoms 1)\n(load 1 1 (3 0))\n(open 0)\n",
+        Fault::TruncatedTenths => "(atoms 1)\n(load 1 1 (4 0))\n(open 0)\n",
+        Fault::HalfAwayFromZero | Fault::HalfToTheOddTenth => "(atoms 1)\n(load 0 0 (3 0))\n(open 0)\n",
+        Fault::HalfTowardZero | Fault::SignLostAtAHalf => "(atoms 1)\n(load -2 -2 (-9 0))\n(open 0)\n",
         Fault::UndecidedPrintedLast => "(atoms 2)\n(rule 0 (not 0))\n(open)\n",
         Fault::MarksIgnored => "(atoms 1)\n(defined 0)\n(open)\n",
         Fault::DeclaredHeadsCountedTwice => "(atoms 1)\n(defined 0)\n(rule 0)\n(claim (1 2))\n",

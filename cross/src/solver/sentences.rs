@@ -19,7 +19,7 @@ impl Solver {
         sum >= line.least && sum <= line.most
     }
 
-    /// The whole tenth nearest to so many minutes: of the two around it the nearer, and of two equally near the one further from 0.
+    /// The whole tenth nearest to so many minutes: of the two around them the nearer, and of two equally near the even one.
     fn tenths(&self, minutes: i64) -> i64 {
         if self.has(Fault::TruncatedTenths) {
             return minutes / 6;
@@ -30,7 +30,19 @@ impl Solver {
         match to_below.cmp(&to_above) {
             std::cmp::Ordering::Less => below,
             std::cmp::Ordering::Greater => above,
-            std::cmp::Ordering::Equal => std::cmp::max_by_key(below, above, |tenths| tenths.abs()),
+            std::cmp::Ordering::Equal => self.of_equally_near(below, above),
+        }
+    }
+
+    /// Of two equally near tenths the even one.
+    fn of_equally_near(&self, below: i64, above: i64) -> i64 {
+        let (even, odd) = if below % 2 == 0 { (below, above) } else { (above, below) };
+        match self.fault {
+            Some(Fault::HalfAwayFromZero) => std::cmp::max_by_key(below, above, |tenths| tenths.abs()),
+            Some(Fault::HalfTowardZero) => std::cmp::min_by_key(below, above, |tenths| tenths.abs()),
+            Some(Fault::HalfToTheOddTenth) => odd,
+            Some(Fault::SignLostAtAHalf) => even.abs(),
+            _ => even,
         }
     }
 }
@@ -43,6 +55,6 @@ mod tests {
     fn tenths_of_the_paper() {
         let solver = Solver::default();
         let counted = [-15, -9, -4, -3, -2, 0, 2, 3, 8, 9, 15, 60, 1_440, -1_440].map(|minutes| solver.tenths(minutes));
-        assert_eq!(counted, [-3, -2, -1, -1, 0, 0, 0, 1, 1, 2, 3, 10, 240, -240]);
+        assert_eq!(counted, [-2, -2, -1, 0, 0, 0, 0, 0, 1, 2, 2, 10, 240, -240]);
     }
 }

@@ -3,6 +3,7 @@
 mod books;
 mod claims;
 mod limits;
+mod minutes;
 mod pages;
 mod small;
 mod tables;
@@ -66,6 +67,7 @@ pub fn all(refusals: Vec<Sample>, examples: Vec<Vec<u8>>, claims: Vec<Vec<u8>>) 
         Family::new(17, "readings on books written back", readings::written::compare_all),
         Family::new(18, "samples and examples written back", move |session| written::texts(session, &texts)),
         Family::new(22, "claims of textsamples written back", move |session| written::texts(session, &claims)),
+        Family::new(23, "every number of minutes", minutes::compare_all),
         Family::new(3, "every small book", |session| small::compare_all(session, Marking::None)),
         Family::marked(11, "every small book with marks", small::compare_all),
         Family::new(4, "random books", |session| books::compare_all(session, Marking::None)),

@@ -178,9 +178,9 @@ fn tables() -> Vec<Sample> {
     let single = reading(
         "each term is rounded by itself",
         [
-            ("(atoms 1)\n(load 2 2 (3 0) (3 0))\n(open 0)\n", "(accepted)"),
+            ("(atoms 1)\n(load 0 0 (3 0) (3 0))\n(open 0)\n", "(accepted)"),
             ("(atoms 1)\n(load 0 0 (2 0) (2 0) (2 0))\n(open 0)\n", "(accepted)"),
-            ("(atoms 1)\n(load 1 1 (-3 0) (9 0))\n(open 0)\n", "(accepted)"),
+            ("(atoms 1)\n(load 2 2 (-3 0) (9 0))\n(open 0)\n", "(accepted)"),
         ],
     );
     [later, single].into_iter().flatten().collect()
