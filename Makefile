@@ -1,7 +1,7 @@
 # make run [BOOK=file]         the report of a book; the first run proves all that the program is made of
 # make lib                     the library, static and shared, and its header, in build/
 # make all                     the same and the programs battenplum and battenplum-check
-# make examples                the examples in C, build/display and build/edit
+# make examples                the examples in C, build/display, build/edit and build/hover
 # make install [PREFIX=dir]    programs, library, header, pkg-config file, manual pages and documents; DESTDIR=dir stages them
 # make uninstall [PREFIX=dir]  removes what was installed
 # make test                    proves everything from nothing and runs all tests
@@ -64,9 +64,9 @@ build/battenplum-check: $(wildcard frontend/*.c frontend/*.h) include/battenplum
 	@$(CC) -std=c99 -Wall -Wextra -Wconversion -pedantic -Iinclude $(CPPFLAGS) $(CFLAGS) $(LDFLAGS) \
 	  $(filter %.c %.a,$^) $(LDLIBS) -o $@.$$$$ && mv $@.$$$$ $@
 
-examples: build/display build/edit
+examples: build/display build/edit build/hover
 
-build/display build/edit: build/%: examples/%.c include/battenplum.h build/libbattenplum.a
+build/display build/edit build/hover: build/%: examples/%.c include/battenplum.h build/libbattenplum.a
 	@tools/need cc
 	@$(CC) -Wall -Wextra -Iinclude $(CPPFLAGS) $(CFLAGS) $(LDFLAGS) $(filter %.c %.a,$^) $(LDLIBS) -o $@.$$$$ && mv $@.$$$$ $@
 

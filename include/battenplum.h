@@ -1,4 +1,4 @@
-/* Battenplum: reads dispatch books, checks claims on them, works out claims and writes books back as text.
+/* Battenplum: reads dispatch books, checks claims on them, works out claims, writes books back as text and tells which rules use a fact.
  *
  * The functions keep nothing between calls and allocate nothing. Any thread may call them at any time.
  * battenplum(3) is the manual page of these calls; battenplum-book(5) describes the text of a book, and claims.
@@ -12,7 +12,7 @@
  *
  * Verdicts. A verdict is a number and a position, packed as number * 65536 + position. 0 means accepted. Of several faults the first is
  * reported: for 1 to 4 the first bad line, with its lowest number, and otherwise the first in the order of the numbers below, where 31
- * and 32 stand between 17 and 21, at its lowest position.
+ * to 33 stand between 17 and 21, at its lowest position.
  *
  * Machines and stack. The library is built for x86-64 Linux. All work is done on the caller's stack: a thread needs about 96 KB
  * for battenplum_verdict and battenplum_report, and about 8 KB for the other calls.
@@ -25,8 +25,8 @@
 
 /* The version of this header. Before 1.0 each minor version may change the calls. */
 #define BATTENPLUM_VERSION_MAJOR 0
-#define BATTENPLUM_VERSION_MINOR 4
-#define BATTENPLUM_VERSION "0.4"
+#define BATTENPLUM_VERSION_MINOR 5
+#define BATTENPLUM_VERSION "0.5"
 
 /* For functions defined in this header: inline where the language has it, and no warning if unused. */
 #if defined(__cplusplus) || (defined(__STDC_VERSION__) && __STDC_VERSION__ >= 199901L)
@@ -53,6 +53,9 @@ extern "C" {
 #define BATTENPLUM_LOAD_ENTRIES 256    /* 64 rows: LO, HI, start, count */
 #define BATTENPLUM_TERMS 4096          /* load literals, and as many minutes */
 
+/* The number of starts in the index of n atoms: one for each literal and one more. An index has at most BATTENPLUM_LITERALS entries. */
+#define BATTENPLUM_STARTS(n) (2 * (n) + 1)
+
 /* The number and the position of a verdict. Both also work on what battenplum_evaluate and battenplum_write return. */
 #define BATTENPLUM_NUMBER(verdict) ((uint32_t)(verdict) >> 16)
 #define BATTENPLUM_POSITION(verdict) ((uint32_t)(verdict) & 0xFFFFu)
@@ -77,6 +80,7 @@ enum {
     BATTENPLUM_BAD_LENGTH = 17,     /* 0 */
     BATTENPLUM_BAD_MARK = 31,       /* the atom, or 0 if `marks` is not n long */
     BATTENPLUM_TEXT_SIZE = 32,      /* battenplum_write alone: 0 */
+    BATTENPLUM_INDEX_SIZE = 33,     /* battenplum_index alone: 0 */
 
     /* The claim, or the open values. */
     BATTENPLUM_BAD_VALUE = 21,   /* the atom */
@@ -107,6 +111,7 @@ BATTENPLUM_INLINE const char *battenplum_message(uint32_t number) {
     case BATTENPLUM_BAD_LENGTH: return "an array other than marks does not have one entry for each atom";
     case BATTENPLUM_BAD_MARK: return "a mark is not 0 or 1, or there is not one mark for each atom";
     case BATTENPLUM_TEXT_SIZE: return "the text does not fit into the buffer, or is larger than the text of a book may be";
+    case BATTENPLUM_INDEX_SIZE: return "an array for the index does not have its exact length, or the rules have too many literals";
     case BATTENPLUM_BAD_VALUE: return "a value is not 0 or 1, or a defined atom is set from outside";
     case BATTENPLUM_BAD_LEVEL: return "a level is out of range";
     case BATTENPLUM_UNSUPPORTED: return "a true atom has no rule that makes it true";
@@ -189,6 +194,34 @@ uint64_t battenplum_write(size_t n,
 
 /* The length of the text in what battenplum_write returns. */
 BATTENPLUM_INLINE size_t battenplum_length(uint64_t written) { return (size_t)(written >> 32); }
+
+/* Builds the index of a book, which tells for each literal the rules that use it, and returns the verdict.
+ * The entries of literal L are entries[starts[L]] up to, and without, entries[starts[L + 1]]: the numbers of the rules that have L in their
+ * body, rising. A rule that has L twice stands there twice. So the rules that use atom A are at the literal 2 * A, those that use it
+ * negated at 2 * A + 1, and a literal that no rule uses has equal starts. The literals of clauses and load lines do not count.
+ * Both lengths must be exact: BATTENPLUM_STARTS(n) starts, and as many entries as battenplum_entries() says (else 33). 33 also means that the
+ * bodies, counted by rule, have more than BATTENPLUM_LITERALS literals; only rules that share literals can have so many.
+ * Faults are looked for in the order 11 to 16, 31, 33. If the call is refused, both arrays keep what they held; otherwise what they held makes
+ * no difference. */
+uint32_t battenplum_index(size_t n,
+                          const uint16_t *rules, size_t rules_len,
+                          const uint16_t *literals, size_t literals_len,
+                          const uint16_t *clauses, size_t clauses_len,
+                          const int32_t *loads, size_t loads_len,
+                          const uint16_t *load_literals, size_t load_literals_len,
+                          const int16_t *minutes, size_t minutes_len,
+                          const uint8_t *marks, size_t marks_len,
+                          uint16_t *starts, size_t starts_len,
+                          uint16_t *entries, size_t entries_len);
+
+/* The number of entries in the index of these rules: the literals of all bodies, where rules that share literals count them each time. */
+BATTENPLUM_INLINE size_t battenplum_entries(const uint16_t *rules, size_t rules_len) {
+    size_t total = 0, count;
+
+    for (count = 2; count < rules_len; count += 3)
+        total += rules[count];
+    return total;
+}
 
 /* The places of `answer` of battenplum_read. All but the first and the last are entries, not rows. Of `marks` as many are in use as there
  * are atoms. */
@@ -345,6 +378,25 @@ BATTENPLUM_INLINE uint64_t battenplum_write_tables(const battenplum_tables *tabl
                             values, tables->n,
                             levels, tables->n,
                             text, text_len);
+}
+
+/* battenplum_index. `starts` has BATTENPLUM_STARTS(tables->n) entries and `entries` as many as battenplum_entries() says of the rules.
+ * BATTENPLUM_STARTS(BATTENPLUM_ATOMS) and BATTENPLUM_LITERALS are room for every book. From this call 33 means that the rules have more
+ * literals. */
+BATTENPLUM_INLINE uint32_t battenplum_index_tables(const battenplum_tables *tables, uint16_t *starts, uint16_t *entries) {
+    const size_t total = battenplum_entries(tables->rules, tables->rules_len);
+
+    return battenplum_index(tables->n,
+                            tables->rules, tables->rules_len,
+                            tables->literals, tables->literals_len,
+                            tables->clauses, tables->clauses_len,
+                            tables->loads, tables->loads_len,
+                            tables->load_literals, tables->load_literals_len,
+                            tables->minutes, tables->minutes_len,
+                            tables->marks, tables->marks_len,
+                            starts, BATTENPLUM_STARTS(tables->n),
+                            /* The bodies of more literals are refused, however long the array is said to be. */
+                            entries, total <= BATTENPLUM_LITERALS ? total : 0);
 }
 
 #ifdef __cplusplus

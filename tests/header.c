@@ -2,6 +2,7 @@
  *
  * Every text is read into tables, by the struct and by the plain call. Open facts are evaluated and what comes out is checked; a claim
  * is checked. Both must come to the verdict on the text. Either claim is written back with the book, and what was written is read again.
+ * The index of each book is held against a look at every place of every rule.
  * Prints how many claims were made and accepted.
  */
 #include <stdio.h>
@@ -14,6 +15,8 @@ static battenplum_storage room, again;
 static uint8_t values[BATTENPLUM_ATOMS], plain_values[BATTENPLUM_ATOMS], marks[BATTENPLUM_ATOMS + 1];
 static uint16_t levels[BATTENPLUM_ATOMS], work[BATTENPLUM_ATOMS];
 static uint8_t written[BATTENPLUM_TEXT_MAX + 2];
+/* One more than any index has of either. */
+static uint16_t starts[BATTENPLUM_STARTS(BATTENPLUM_ATOMS) + 1], entries[BATTENPLUM_LITERALS + 1];
 
 static const char *file_name = "(no file)";
 static int faults = 0;
@@ -31,9 +34,9 @@ static void constants(void) {
         BATTENPLUM_ACCEPTED,       BATTENPLUM_MALFORMED,       BATTENPLUM_OUTSIDE_LIMITS, BATTENPLUM_OUT_OF_ORDER,
         BATTENPLUM_NO_SPACE,       BATTENPLUM_BAD_SIZES,       BATTENPLUM_BAD_RULE_ROW,   BATTENPLUM_BAD_CLAUSE_ROW,
         BATTENPLUM_BAD_LOAD_ROW,   BATTENPLUM_BAD_LITERAL,     BATTENPLUM_BAD_TERM,       BATTENPLUM_BAD_LENGTH,
-        BATTENPLUM_BAD_MARK,       BATTENPLUM_TEXT_SIZE,       BATTENPLUM_BAD_VALUE,      BATTENPLUM_BAD_LEVEL,
-        BATTENPLUM_UNSUPPORTED,    BATTENPLUM_UNBLOCKED,       BATTENPLUM_UNDECIDED,      BATTENPLUM_FAILING_CLAUSE,
-        BATTENPLUM_FAILING_LOAD};
+        BATTENPLUM_BAD_MARK,       BATTENPLUM_TEXT_SIZE,       BATTENPLUM_INDEX_SIZE,     BATTENPLUM_BAD_VALUE,
+        BATTENPLUM_BAD_LEVEL,      BATTENPLUM_UNSUPPORTED,     BATTENPLUM_UNBLOCKED,      BATTENPLUM_UNDECIDED,
+        BATTENPLUM_FAILING_CLAUSE, BATTENPLUM_FAILING_LOAD};
     const size_t count = sizeof numbers / sizeof numbers[0];
     char version[32];
     size_t i, j;
@@ -258,6 +261,86 @@ static void largest(void) {
     hold(has_length(&book, 10000, 0), "one byte too many is written");
 }
 
+/* The call below the struct, with so many starts and entries. */
+static uint32_t plain_index(const battenplum_tables *book, size_t starts_len, size_t entries_len) {
+    memset(starts, 0xAA, sizeof starts);
+    memset(entries, 0xAA, sizeof entries);
+    return battenplum_index(book->n, book->rules, book->rules_len, book->literals, book->literals_len, book->clauses, book->clauses_len,
+                            book->loads, book->loads_len, book->load_literals, book->load_literals_len, book->minutes, book->minutes_len,
+                            book->marks, book->marks_len, starts, starts_len, entries, entries_len);
+}
+
+/* Nothing is written from these places on. */
+static int unindexed_from(size_t start, size_t entry) {
+    while (start < sizeof starts / sizeof starts[0] && starts[start] == 0xAAAA) start++;
+    while (entry < sizeof entries / sizeof entries[0] && entries[entry] == 0xAAAA) entry++;
+    return start == sizeof starts / sizeof starts[0] && entry == sizeof entries / sizeof entries[0];
+}
+
+/* The index that was built last is what a look at every place of every rule finds, literal by literal. */
+static int tells_users(const battenplum_tables *book) {
+    const size_t rules = book->rules_len / 3;
+    size_t literal, rule, place, next = 0;
+
+    for (literal = 0; literal < 2 * book->n; literal++) {
+        if (starts[literal] != next) return 0;
+        for (rule = 0; rule < rules; rule++) {
+            const uint16_t *row = book->rules + 3 * rule;
+            for (place = 0; place < row[2]; place++)
+                if (book->literals[row[1] + place] == literal && entries[next++] != rule) return 0;
+        }
+    }
+    return starts[literal] == next;
+}
+
+/* The index of a book that was read, and lengths that are one off; a mark of 2 comes before them. */
+static void indexed(const battenplum_tables *book) {
+    const size_t starts_due = BATTENPLUM_STARTS(book->n), entries_due = battenplum_entries(book->rules, book->rules_len);
+    const uint32_t bad_length = (uint32_t)BATTENPLUM_INDEX_SIZE << 16;
+    battenplum_tables bad = *book;
+
+    hold(plain_index(book, starts_due, entries_due) == BATTENPLUM_ACCEPTED && tells_users(book), "the index is not what the rules are");
+    hold(unindexed_from(starts_due, entries_due), "entries behind the index are written");
+    memset(starts, 0xAA, sizeof starts);
+    memset(entries, 0xAA, sizeof entries);
+    hold(battenplum_index_tables(book, starts, entries) == BATTENPLUM_ACCEPTED && tells_users(book), "the struct's call indexes otherwise");
+    hold(unindexed_from(starts_due, entries_due), "the struct's call writes entries behind the index");
+    hold(battenplum_index_tables(book, starts, entries) == BATTENPLUM_ACCEPTED && tells_users(book), "what the arrays held makes a difference");
+    hold(plain_index(book, starts_due - 1, entries_due) == bad_length && unindexed_from(0, 0), "one start too few is not refused");
+    hold(plain_index(book, starts_due + 1, entries_due) == bad_length && unindexed_from(0, 0), "one start too many is not refused");
+    hold(plain_index(book, starts_due, entries_due + 1) == bad_length && unindexed_from(0, 0), "one entry too many is not refused");
+    hold(entries_due == 0 || (plain_index(book, starts_due, entries_due - 1) == bad_length && unindexed_from(0, 0)), "one entry too few is not refused");
+    if (book->n == 0) return;
+    memcpy(marks, book->marks, book->n);
+    marks[book->n - 1] = 2;
+    bad.marks = marks;
+    hold(plain_index(&bad, 0, 0) == ((uint32_t)BATTENPLUM_BAD_MARK << 16 | (uint32_t)(book->n - 1)) && unindexed_from(0, 0),
+         "lengths that are wrong come before a mark of 2");
+}
+
+/* The largest index, and one literal more. Rules share their bodies, which count for each. */
+static void largest_index(void) {
+    static const char small[] = "(atoms 1)\n(claim (0 0))\n";
+    uint16_t rules[6] = {0, 0, BATTENPLUM_LITERALS - 1, 0, 7, 1};
+    battenplum_tables book;
+    uint32_t state;
+
+    file_name = "the largest index";
+    memset(&room, 0, sizeof room);
+    hold(battenplum_read_tables((const uint8_t *)small, sizeof small - 1, &room, &book, &state) == BATTENPLUM_ACCEPTED, "two lines are not read");
+    indexed(&book);
+    book.rules = rules;
+    book.rules_len = 6;
+    book.literals_len = BATTENPLUM_LITERALS;
+    hold(battenplum_entries(rules, 6) == BATTENPLUM_LITERALS, "the bodies are counted otherwise");
+    indexed(&book);
+    rules[5]++;
+    hold(plain_index(&book, BATTENPLUM_STARTS(1), BATTENPLUM_LITERALS + 1) == (uint32_t)BATTENPLUM_INDEX_SIZE << 16 && unindexed_from(0, 0),
+         "one literal too many is indexed");
+    hold(battenplum_index_tables(&book, starts, entries) == (uint32_t)BATTENPLUM_INDEX_SIZE << 16 && unindexed_from(0, 0),
+         "the struct's call indexes one literal too many");
+}
+
 /* A refused text leaves a book without atoms, which is written like any other. */
 static void nothing_read(void) {
     static const char empty[] = "(atoms 0)\n(claim)\n";
@@ -269,6 +352,7 @@ static void nothing_read(void) {
     hold(state == BATTENPLUM_STATE_NONE, "a refused text has ended in a known way");
     hold(write_back(&book, room.values, room.levels) == sizeof empty - 1 && memcmp(written, empty, sizeof empty - 1) == 0,
          "a book without atoms is not written");
+    indexed(&book);
 }
 
 /* A right claim for a book that was changed: a rule struck and its head declared, an atom added, and all that is defined worked out again. */
@@ -310,6 +394,7 @@ static int one_book(size_t length) {
     memset(&again, 0, sizeof again);
     hold(battenplum_read_tables(text, length, &room, &book, &state) == BATTENPLUM_ACCEPTED, "the text is not read");
     plain_read(length, &book, state);
+    indexed(&book);
     hold(state != BATTENPLUM_STATE_NONE, "the text has neither open facts nor a claim");
     if (state == BATTENPLUM_STATE_CLAIM) {
         hold(battenplum_check_tables(&book, room.values, room.levels) == whole, "the claim's verdict is not the text's");
@@ -357,6 +442,7 @@ int main(int argc, char **argv) {
 
     constants();
     largest();
+    largest_index();
     nothing_read();
     changed();
     every_form();

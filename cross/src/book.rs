@@ -123,3 +123,23 @@ impl BookText {
         BookText { verdict, ..BookText::default() }
     }
 }
+
+/// Where each literal occurs: literal L's rows are the entries from start L to start L + 1.
+#[derive(Clone, PartialEq, Eq, Debug, Default)]
+pub struct Index {
+    pub starts: Vec<u16>,
+    pub entries: Vec<u16>,
+}
+
+/// What the call that builds an index answers, and what both slices then hold, or nothing if it is refused.
+#[derive(Clone, PartialEq, Eq, Debug)]
+pub struct Indexed {
+    pub verdict: Verdict,
+    pub written: Option<Index>,
+}
+
+impl Indexed {
+    pub fn refused(verdict: Verdict) -> Indexed {
+        Indexed { verdict, written: None }
+    }
+}

@@ -1,8 +1,8 @@
-//! The six calls on plain slices, as one trait: the C library is one implementation of it, `fast` the other.
+//! The seven calls on plain slices, as one trait: the C library is one implementation of it, `fast` the other.
 
 use crate::book::Book;
 
-/// The tables that a check, an evaluation or a writing reads.
+/// The tables that a check, an evaluation, a writing or an indexing reads.
 #[derive(Clone, Copy)]
 pub struct Tables<'a> {
     pub n: usize,
@@ -58,6 +58,7 @@ pub trait Calls {
     fn evaluate(&self, tables: Tables, open_values: &[u8], values: &mut [u8], levels: &mut [u16], work: &mut [u16]) -> u64;
     fn read(&self, text: &[u8], tables: TablesToFill, answer: &mut [u32]) -> u32;
     fn write(&self, tables: Tables, values: &[u8], levels: &[u16], text: &mut [u8]) -> u64;
+    fn index(&self, tables: Tables, starts: &mut [u16], entries: &mut [u16]) -> u32;
 }
 
 /// `build/libbattenplum.a`.
@@ -125,6 +126,19 @@ mod c {
             levels: *const u16, levels_len: usize,
             text: *mut u8, text_len: usize,
         ) -> u64;
+
+        pub fn battenplum_index(
+            n: usize,
+            rules: *const u16, rules_len: usize,
+            literals: *const u16, literals_len: usize,
+            clauses: *const u16, clauses_len: usize,
+            loads: *const i32, loads_len: usize,
+            load_literals: *const u16, load_literals_len: usize,
+            minutes: *const i16, minutes_len: usize,
+            marks: *const u8, marks_len: usize,
+            starts: *mut u16, starts_len: usize,
+            entries: *mut u16, entries_len: usize,
+        ) -> u32;
     }
 }
 
@@ -196,6 +210,7 @@ impl Calls for Library {
             )
         }
     }
+
     fn write(&self, t: Tables, values: &[u8], levels: &[u16], text: &mut [u8]) -> u64 {
         unsafe {
             c::battenplum_write(
@@ -210,6 +225,23 @@ impl Calls for Library {
                 values.as_ptr(), values.len(),
                 levels.as_ptr(), levels.len(),
                 text.as_mut_ptr(), text.len(),
+            )
+        }
+    }
+
+    fn index(&self, t: Tables, starts: &mut [u16], entries: &mut [u16]) -> u32 {
+        unsafe {
+            c::battenplum_index(
+                t.n,
+                t.rules.as_ptr(), t.rules.len(),
+                t.literals.as_ptr(), t.literals.len(),
+                t.clauses.as_ptr(), t.clauses.len(),
+                t.loads.as_ptr(), t.loads.len(),
+                t.load_literals.as_ptr(), t.load_literals.len(),
+                t.minutes.as_ptr(), t.minutes.len(),
+                t.marks.as_ptr(), t.marks.len(),
+                starts.as_mut_ptr(), starts.len(),
+                entries.as_mut_ptr(), entries.len(),
             )
         }
     }

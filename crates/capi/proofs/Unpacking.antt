@@ -19,6 +19,8 @@ use Rattle.booktext.specs.Answers.{answerOf}
 use Rattle.booktext.proofs.Positions.{text-position}
 use Rattle.outcome.specs.Outcomes.{outcomeOf}
 use Rattle.outcome.proofs.Bounds.{outcome-position}
+use Rattle.indexing.specs.Index.{indexVerdict}
+use Rattle.indexing.proofs.Theorems.{index-position}
 use Rattle.writing.specs.Writing.{writeOf}
 use Rattle.writing.proofs.Theorems.{written-position}
 use Rattle.capi.specs.Packing.{packed, packedWith, Unpacks}
@@ -30,7 +32,7 @@ unpacks verdict l =
     let n = verdict-number verdict in
     record { number = omega arith; position = omega arith; answers = λ e. omega arith }
 
--- and so does the verdict of every call: of the check, the maker, a text, the reader and the writer.
+-- and so does the verdict of every call: of the check, the maker, a text, the reader, the writer and the index.
 pub check-unpacks : (t : Tables) (values levels : List ℕ) → Unpacks (checkOf t values levels)
 check-unpacks t values levels = unpacks _ (check-position t values levels)
 
@@ -45,6 +47,9 @@ read-unpacks space text = unpacks _ (text-position space text)
 
 pub write-unpacks : (t : Tables) (values levels : List ℕ) (room : ℕ) → Unpacks (writeOf t values levels room)
 write-unpacks t values levels room = unpacks _ (written-position t values levels room)
+
+pub index-unpacks : (t : Tables) (starts entries : ℕ) → Unpacks (indexVerdict t starts entries)
+index-unpacks t starts entries = unpacks _ (index-position t starts entries)
 
 -- The rounds, and the length, stand above the packed verdict.
 pub count-unpacks :

@@ -13,6 +13,7 @@ use Rattle.forms.specs.Contents.{Contents}
 use Rattle.booktext.specs.declared.Book.{Book}
 use Rattle.booktext.specs.Answers.{stateNumber, answerOf, spaceOf, contentsAfter}
 use Rattle.evaluator.specs.Evaluate.{Evaluation}
+use Rattle.indexing.specs.Index.{indexStarts, indexEntries, indexVerdict, builtOr}
 use Rattle.writing.specs.BookForms.{textOf}
 use Rattle.writing.specs.Writing.{writeOf, writtenOf, bufferAfter}
 
@@ -55,6 +56,12 @@ pub record WrittenForC (t : Tables) (values levels before : List ℕ) (answer : 
   pub answered :
       answer ≡ packedWith (writeOf t values levels (length before)) (writtenOf (writeOf t values levels (length before)) (textOf t values levels) .length)
   pub written : afterwards ≡ bufferAfter (writeOf t values levels (length before)) (textOf t values levels) before
+
+-- What the index's call promises: its answer, and both slices afterwards.
+pub record IndexedForC (t : Tables) (starts entries : List ℕ) (answer : ℕ) (startsAfter entriesAfter : List ℕ) : Type 0 where
+  pub answered : answer ≡ packed (indexVerdict t (length starts) (length entries))
+  pub startsBuilt : startsAfter ≡ builtOr (indexVerdict t (length starts) (length entries)) (indexStarts t) starts
+  pub entriesBuilt : entriesAfter ≡ builtOr (indexVerdict t (length starts) (length entries)) (indexEntries t) entries
 
 -- What a packed verdict tells: the verdict's number and position, and that it is an answer.
 pub record Unpacks (verdict : Verdict) : Type 0 where

@@ -10,13 +10,14 @@ ghost use Rattle.evaluator.specs.Evaluate.{evaluateOf};
 ghost use Rattle.forms.specs.Contents.{lentTables};
 ghost use Rattle.outcome.specs.Outcomes.{outcomeOf};
 ghost use Rattle.report.specs.Reports.{Reported};
-ghost use Rattle.capi.specs.Packing.{packed, countsOf, EvaluatedForC, ReadForC, WrittenForC};
+ghost use Rattle.capi.specs.Packing.{packed, countsOf, EvaluatedForC, ReadForC, WrittenForC, IndexedForC};
 ghost use Rattle.capi.specs.internal.Counts.{WithinBook};
 use booktext::Book;
 use booktext::read;
 use booktext::state_number;
 use checker::check;
 use evaluator::evaluate;
+use indexing::index;
 use outcome::outcome_of;
 use report::report;
 use tables::Verdict;
@@ -163,6 +164,39 @@ pub extern "C" fn battenplum_write(
     );
     let verdict = answer.verdict;
     answer.length as u64 * 4_294_967_296 + pack(verdict) as u64
+}
+
+// The index of lent tables, built in two lent slices.
+#[no_mangle]
+pub extern "C" fn battenplum_index(
+    n: usize,
+    rules: &[u16],
+    literals: &[u16],
+    clauses: &[u16],
+    loads: &[i32],
+    load_literals: &[u16],
+    minutes: &[i16],
+    marks: &[u8],
+    starts: &mut [u16],
+    entries: &mut [u16],
+) -> u32
+    ensures { λ r. ⌜ IndexedForC
+        (lent n (now (rules .entry)) (now (literals .entry)) (now (clauses .entry)) (now (loads .entry)) (now («load_literals» .entry))
+        (now (minutes .entry)) (now (marks .entry)))
+        (now (starts .entry)) (now (entries .entry)) r (now (starts .exit)) (now (entries .exit)) ⌝ }
+{
+    pack(index(
+        n,
+        rules,
+        literals,
+        clauses,
+        loads,
+        load_literals,
+        minutes,
+        marks,
+        starts,
+        entries,
+    ))
 }
 
 // Puts the seven counts in their places.

@@ -1,5 +1,5 @@
 -- The tables of full size that an outcome is made from hold every book, so no text is refused for want of space; nor for the size of a
--- text that is written.
+-- text that is written or of an index.
 -- Assumes nothing.
 use Prim.Native.Nat.{ℕ}
 use mathlib.Core.Path.{_≡_, refl}
@@ -10,7 +10,7 @@ use lib.Dec.{eqb}
 use Rattle.wellfounded.specs.Lists.{all}
 use Rattle.wellfounded.proofs.Tests.{clash}
 use Rattle.tables.specs.declared.Fault.{Fault}
-use Rattle.tables.specs.declared.Fault.the-variants.{NoSpace, TextSize}
+use Rattle.tables.specs.declared.Fault.the-variants.{NoSpace, TextSize, IndexSize}
 use Rattle.tables.specs.declared.Verdict.the-variants.{Refused}
 use Rattle.tables.specs.Faults.{faultNumber, numberOf}
 use Rattle.tables.specs.Sound.{Tables, tableTests, sliceTest, markCountTest, markTest, lentTests}
@@ -29,9 +29,9 @@ pub full-tables : FullSpace fullSpace
 unfolding fullSpace
 full-tables = record { each = λ table. omega (arith, room-with fullSize table) }
 
--- No test of the check or of the maker is about space, or about the size of a text that is written.
+-- No test of the check or of the maker is about space, or about the size of a text that is written or of an index.
 abbrev otherFault : Fault → Bool
-otherFault fault = not (eqb (faultNumber fault) 4 || eqb (faultNumber fault) 32)
+otherFault fault = not (eqb (faultNumber fault) 4 || (eqb (faultNumber fault) 32 || eqb (faultNumber fault) 33))
 
 no-such-test : (fault : Fault) → otherFault fault ≡ false → (t : Tables) → NeverGiven fault t
 unfolding checkOf checkTests refusalTests lentTests tableTests sliceTest markCountTest markTest claimTests valueTest levelTests levelTest supportTest blockingTest settingTest modelTests undecidedTest satisfactionTests clauseTest loadTest all
@@ -54,3 +54,8 @@ module _ (text : List ℕ) where
   pub never-thirty-two : numberOf (outcomeOf text .verdict) ≡ 32 → ⊥
   never-thirty-two =
       never-numbered TextSize text (λ at e. let low = refused-low fullSpace text TextSize at e in omega (arith, low)) (λ s d. no-such-test TextSize refl _)
+
+  -- And never 33, which only the index gives.
+  pub never-thirty-three : numberOf (outcomeOf text .verdict) ≡ 33 → ⊥
+  never-thirty-three =
+      never-numbered IndexSize text (λ at e. let low = refused-low fullSpace text IndexSize at e in omega (arith, low)) (λ s d. no-such-test IndexSize refl _)

@@ -5,7 +5,7 @@ use mathlib.Core.Path.{_≡_, refl, ap, _∙_}
 use mathlib.Core.List.{List, [], _∷_, _++_, append-assoc, append-nil}
 use lib.ListN.{length, getD, length-append}
 use borrow.Author.Tests.{eq-eqb, ne-eqb}
-use Rattle.printing.specs.Joined.{joinBelow}
+use Rattle.wellfounded.specs.Lists.{joinBelow}
 use Rattle.page.specs.Pages.{atomLine, atomAt, linesOf}
 
 -- An atom at the level is listed, and one that is not is passed over.

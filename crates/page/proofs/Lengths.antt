@@ -10,6 +10,7 @@ use native.Mathlib.Nat.{suc-mul}
 use lib.Dec.{eqb}
 use lib.ListN.{length, getD, length-append}
 use borrow.Author.Tests.{eqb-true, eqb-false, not-true, not-false}
+use Rattle.wellfounded.specs.Lists.{joinBelow}
 use Rattle.wellfounded.proofs.Tests.{decided}
 use Rattle.tables.specs.declared.Verdict.{Verdict}
 use Rattle.tables.specs.declared.Verdict.the-variants.{Accepted, Refused}
@@ -18,7 +19,6 @@ use Rattle.tables.specs.Limits.{maxAtoms, maxPosition}
 use Rattle.tables.specs.Faults.{faultNumber, positionOf}
 use Rattle.tables.proofs.Numbers.{number-bounds}
 use Rattle.format.specs.Forms.{decimal}
-use Rattle.printing.specs.Joined.{joinBelow}
 use Rattle.printing.proofs.DecimalLaws.{length-1, length-2, length-4, length-5}
 use Rattle.page.specs.Pages.{verdictLine, madeLine, atomLine, atomAt, atomsAt, atomsInOrder}
 use Rattle.page.specs.Pages.{linesOf, atomLines, pageOf, pageSize}

@@ -2,8 +2,7 @@
 -- Assumes nothing.
 use Rattle.format.proofs.Computes.{computes as format-computes}
 use Rattle.tables.proofs.Computes.{computes as tables-computes}
-use Rattle.printing.specs.Joined.{joinBelow}
 
 unfoldable pub computes : Unit {0}
-unfolding format-computes tables-computes joinBelow
+unfolding format-computes tables-computes
 computes = tt

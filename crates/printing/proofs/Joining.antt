@@ -1,31 +1,14 @@
--- Lists joined one after the other, and parts that are put one after the other.
+-- Parts that are put one after the other.
 -- Assumes nothing.
-use Prim.Native.Nat.{ℕ, zero, suc, _+_, _-_, _≤_, _<_}
+use Prim.Native.Nat.{ℕ, _+_, _≤_, _<_}
 use mathlib.Core.Path.{_≡_, ap, _∙_}
-use mathlib.Core.List.{List, [], _++_}
+use mathlib.Core.List.{List, []}
 use native.Mathlib.Omega.{arith}
-use native.Mathlib.Nat.{zero-add, suc-add}
-use native.Mathlib.Numerals.{add-one}
 use lib.ListN.{length, length-append}
-use Rattle.printing.specs.Joined.{joinBelow}
+use Rattle.wellfounded.specs.Lists.{joinBelow}
+use Rattle.wellfounded.proofs.Sums.{join-more, join-below}
 use Rattle.printing.specs.internal.Putting.{Puts}
 use Rattle.printing.proofs.PutLaws.{puts-none, puts-then, puts-length}
-
--- One part more, behind those before it.
-pub join-more : (n : ℕ) (f : ℕ → List ℕ) → joinBelow (n + 1) f ≡ joinBelow n f ++ f n
-unfolding joinBelow
-join-more n f = rw add-one
-
--- More parts are at least as long.
-join-longer : (m k : ℕ) (f : ℕ → List ℕ) → length (joinBelow m f) ≤ length (joinBelow (k + m) f)
-unfolding joinBelow
-join-longer m zero f = rw zero-add (omega arith)
-join-longer m (suc k) f = let before = join-longer m k f in rw (suc-add k m, length-append) (omega arith)
-
-pub join-below : (m n : ℕ) (f : ℕ → List ℕ) → m ≤ n → length (joinBelow m f) ≤ length (joinBelow n f)
-join-below m n f h =
-    let e : n - m + m ≡ n = omega arith in
-    rw e at (join-longer m (n - m) f)
 
 -- A part that is still to be put is within the room of all.
 pub join-within :

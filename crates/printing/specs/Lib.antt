@@ -1,3 +1,2 @@
--- Parts joined one after the other. What bytes put at an offset are is inside.
-pub mod Joined
+-- What bytes put at an offset are is inside.
 pub mod internal

@@ -1,7 +1,7 @@
 // The setting: its faults, and the state it starts from.
 ghost use mathlib.Core.Path.{_≡_};
 ghost use Prim.Native.Nat.{ℕ, _≤_, _<_};
-ghost use lib.ListN.{length, getD, replicate};
+ghost use lib.ListN.{length, getD};
 ghost use Rattle.wellfounded.specs.Literals.{atomOf};
 ghost use Rattle.tables.specs.Faults.{lowest};
 ghost use Rattle.tables.specs.internal.Marks.{markWhere};
@@ -35,17 +35,6 @@ pub fn start_values(defined: &[u8], setting: &[u8], values: &mut [u8])
     while atom < setting.len() {
         values[atom] = if defined[atom] == 1 { 2 } else { setting[atom] };
         atom += 1;
-    }
-}
-
-// Puts 0 at every entry.
-pub fn clear(entries: &mut [u16])
-    ensures { λ r. ⌜ now (entries .exit) ≡ replicate (length (now (entries .entry))) 0 ⌝ }
-{
-    let mut i = 0;
-    while i < entries.len() {
-        entries[i] = 0;
-        i += 1;
     }
 }
 

@@ -6,10 +6,10 @@ ghost use Rattle.wellfounded.specs.Definitions.{Definition};
 ghost use Rattle.rounds.specs.internal.Rounds.{AtStage, RoundDone, RoundsDone, RoundFits, StagesReady};
 use super::rounds::decide;
 use super::rounds::mark_firing;
-use super::setting::clear;
 use super::setting::mark_negated;
 use super::setting::start_values;
 use founding::mark_founded;
+use tables::entries::clear;
 use tables::sizes::MAX_ATOMS;
 
 // One round: marks what fires, then decides it together with what is not founded, at the level. Answers whether anything

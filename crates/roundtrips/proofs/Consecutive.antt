@@ -8,9 +8,10 @@ use mathlib.Core.List.{List, [], _∷_, _++_, map, append-assoc, append-nil}
 use native.Mathlib.Omega.{arith}
 use lib.IntN.{ℤ, pos}
 use lib.ListN.{length}
-use Rattle.wellfounded.specs.Lists.{all}
+use Rattle.wellfounded.specs.Lists.{all, sumBelow}
 use Rattle.wellfounded.proofs.Tests.{first, second, either}
-use Rattle.tables.specs.Rows.{ruleCount, ruleStart, ruleSize, clauseCount, clauseStart, clauseSize}
+use Rattle.wellfounded.proofs.Sums.{sum-front, sum-same}
+use Rattle.tables.specs.Rows.{ruleCount, ruleStart, ruleSize, literalsByRule, clauseCount, clauseStart, clauseSize}
 use Rattle.tables.specs.Sound.{lent}
 use Rattle.tables.specs.Loads.{loadCount, indexOf, loadEntry, loadStart, loadSize}
 use Rattle.format.specs.declared.kinds.Kind.{Kind}
@@ -25,10 +26,9 @@ use Rattle.judging.specs.Books.{afterAll, isState, InSequence}
 use Rattle.forms.specs.Entries.{ruleRow, clauseRow, loadRow, entriesOf, givenAnew, joinedBy, joined, entriesFrom, bookEntries}
 use Rattle.forms.proofs.Decodes.{beyond-row}
 use Rattle.booktext.specs.UsedParts.{tablesOf}
-use Rattle.writing.specs.Writing.{sumBelow, literalsByRow, termsByRow}
+use Rattle.writing.specs.Writing.{literalsByRow, termsByRow}
 use Rattle.roundtrips.specs.RoundTrips.{Consecutive}
 use Rattle.roundtrips.proofs.ListTests.{all-one}
-use Rattle.roundtrips.proofs.Totals.{sum-front, sum-same}
 use Rattle.roundtrips.proofs.Counted.{later-parts}
 
 -- ── Rows of any width ──
@@ -340,8 +340,8 @@ module _ (fs : List Form) (q : InSequence fs) where
       let k = laid-starts ruleCount ruleStart ruleSize (literalCounts (q .rules)) (begun .literals) (afterAll begun (q .rules) .literals) (entriesFrom begun (q .rules) Rules) (rules-laid begun (q .rules) (q .areRules)) row l in
       k ∙ omega (arith, no-literals))
 
-  rules-end : ruled .literals ≡ sumBelow (ruleCount (bookEntries fs Rules)) (ruleSize (bookEntries fs Rules))
-  unfolding ruled
+  rules-end : ruled .literals ≡ literalsByRule (bookEntries fs Rules)
+  unfolding ruled literalsByRule
   rules-end =
       rw book-rules
       (laid-end ruleCount ruleStart ruleSize (literalCounts (q .rules)) (begun .literals) (afterAll begun (q .rules) .literals) (entriesFrom begun (q .rules) Rules) (rules-laid begun (q .rules) (q .areRules)) ∙ omega (arith, no-literals))
@@ -365,7 +365,7 @@ module _ (fs : List Form) (q : InSequence fs) where
   ended = ap (afterAll start) (q .whole) ∙ later-parts (after start (q .atoms)) (q .defined) (q .rules) (q .clauses) (q .loads) (q .state ∷ [])
 
   pub literals-end : afterAll start fs .literals ≡ literalsByRow (bookEntries fs Rules) (bookEntries fs Clauses)
-  unfolding claused literalsByRow sameKind kindNumber
+  unfolding claused literalsByRow literalsByRule sameKind kindNumber
   literals-end =
       let clauses =
       laid-end clauseCount clauseStart clauseSize (literalCounts (q .clauses)) (ruled .literals) (afterAll ruled (q .clauses) .literals) (entriesFrom ruled (q .clauses) Clauses) (clauses-laid ruled (q .clauses) (q .areClauses)) in

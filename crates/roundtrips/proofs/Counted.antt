@@ -6,7 +6,7 @@ use mathlib.Core.List.{List, [], _∷_, _++_, map}
 use native.Mathlib.Omega.{arith}
 use lib.ListN.{length, length-map}
 use Rattle.wellfounded.specs.Definitions.{Rule}
-use Rattle.tables.specs.Rows.{rulesOf, clausesOf, ruleWidth, clauseWidth, ruleCount, ruleStart, ruleSize, clauseCount, clauseStart, clauseSize}
+use Rattle.tables.specs.Rows.{rulesOf, clausesOf, ruleWidth, clauseWidth, ruleCount, ruleStart, ruleSize, literalsByRule, clauseCount, clauseStart, clauseSize}
 use Rattle.tables.specs.Loads.{Load, loadsOf, loadWidth, loadCount}
 use Rattle.tables.specs.Sound.{Tables}
 use Rattle.format.specs.Forms.{PairText, Form, atomsForm, claimForm}
@@ -174,7 +174,7 @@ unfolding after advanced start viewOf sameKind kindNumber
 atoms-stand n = (refl, refl, refl, refl, refl, refl)
 
 pub book-counted : (t : Tables) (values levels : List ℕ) → RowsLie t → Counted t (afterAll start (bookForms t values levels))
-unfolding afterAll bookForms literalsByRow termsByRow
+unfolding afterAll bookForms literalsByRow literalsByRule termsByRow
 book-counted t values levels lie =
     let s = after start (atomsForm (t .atoms)) in
     let begun = atoms-stand (t .atoms) in

@@ -10,13 +10,12 @@ use lib.Dec.{eqb, leb, ltb}
 use lib.ListN.{length, getD}
 use lib.Seq.{ext-getD}
 use borrow.Author.Tests.{eqb-true, eqb-false, eq-eqb, ne-eqb, leb-true, le-leb, lt-ltb, le-ltb, ltb-true, ltb-false}
-use Rattle.wellfounded.specs.Lists.{all, any, tabulate}
+use Rattle.wellfounded.specs.Lists.{all, any, tabulate, joinBelow}
 use Rattle.wellfounded.proofs.Tests.{decided, both, first, second, clash}
 use Rattle.wellfounded.proofs.Lists.{length-tabulate, getD-tabulate}
 use Rattle.tables.specs.Rows.{isDeclared}
 use Rattle.judging.specs.Judging.{risesFrom}
 use Rattle.forms.specs.Entries.{onesAt}
-use Rattle.printing.specs.Joined.{joinBelow}
 use Rattle.writing.specs.BookForms.{markedAtom, markedAtoms}
 use Rattle.roundtrips.proofs.ListTests.{all-both}
 

@@ -16,9 +16,10 @@ use Rattle.wellfounded.specs.Literals.{atomOf, bodyAt}
 use Rattle.wellfounded.specs.Definitions.{Rule}
 use Rattle.wellfounded.proofs.Tests.{both, first, second, not-both}
 use Rattle.wellfounded.proofs.Lists.{all-make, member-entry}
+use Rattle.wellfounded.proofs.Sums.{sum-within}
 use Rattle.tables.specs.Limits.{maxBound, maxMinutes, maxLiterals, maxTerms}
 use Rattle.tables.specs.Faults.{Test, Absent}
-use Rattle.tables.specs.Rows.{ruleCount, ruleHead, ruleStart, ruleSize, ruleBody, ruleAt, rulesOf, clauseCount, clauseStart, clauseSize, clauseAt, clausesOf}
+use Rattle.tables.specs.Rows.{ruleCount, ruleHead, ruleStart, ruleSize, ruleBody, ruleAt, rulesOf, literalsByRule, clauseCount, clauseStart, clauseSize, clauseAt, clausesOf}
 use Rattle.tables.specs.Loads.{Load, loadCount, indexOf, loadLow, loadHigh, loadStart, loadSize, termAt, termsAt, loadAt, loadsOf}
 use Rattle.tables.specs.Sound.{Tables, lent, claimSlices, tableTests, badRuleRow, badClauseRow, badLiteral, badTerm, sliceTest, Sound, Sizes, LoadRowFits, MarksFit}
 use Rattle.tables.proofs.Faults.{absent-none, absent-more}
@@ -38,7 +39,6 @@ use Rattle.writing.specs.BookForms.{literalText, termText, ruleFormOf, clauseFo
 use Rattle.writing.specs.Writing.{literalsByRow, termsByRow}
 use Rattle.roundtrips.specs.RoundTrips.{takenIn, SameBook, Consecutive}
 use Rattle.roundtrips.proofs.ListTests.{all-both, all-tabulate, all-take, all-drop, all-entry, all-row, all-weaker, all-parts, all-map, all-rows}
-use Rattle.roundtrips.proofs.Totals.{sum-within}
 use Rattle.roundtrips.proofs.Counted.{book-counted}
 use Rattle.roundtrips.proofs.Books.{rows-lie, taken-counted, book-sequence}
 use Rattle.roundtrips.proofs.Decoding.{literal-again}
@@ -254,13 +254,13 @@ module _
 
     -- Rows end within the literals and within the terms.
     rules-within : (row : ℕ) → row < ruleCount (entries Rules) → ruleStart (entries Rules) row + ruleSize (entries Rules) row ≤ length (entries Literals)
-    unfolding tablesOf lent literalsByRow
+    unfolding tablesOf lent literalsByRow literalsByRule
     rules-within row l =
         omega (arith, in-order .rules row l, sum-within (ruleSize (entries Rules)) row (ruleCount (entries Rules)) l, literals-long)
 
     clauses-within :
         (row : ℕ) → row < clauseCount (entries Clauses) → clauseStart (entries Clauses) row + clauseSize (entries Clauses) row ≤ length (entries Literals)
-    unfolding tablesOf lent literalsByRow
+    unfolding tablesOf lent literalsByRow literalsByRule
     clauses-within row l =
         omega (arith, in-order .clauses row l, sum-within (clauseSize (entries Clauses)) row (clauseCount (entries Clauses)) l, literals-long)
 

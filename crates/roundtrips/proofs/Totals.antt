@@ -2,37 +2,16 @@
 -- Assumes nothing.
 use Prim.Native.Nat.{ℕ, zero, suc, _+_, _≤_, _<_}
 use mathlib.Core.Path.{_≡_, refl, sym, ap, _∙_}
-use mathlib.Core.Logic.{⊎-elim}
 use mathlib.Core.List.{List, [], _∷_, _++_, map}
-use native.Mathlib.Omega.{arith}
-use native.Mathlib.Nat.{le-of-suc-le-suc, eq-or-lt-of-le}
 use lib.IntN.{ℤ}
-use lib.ListN.{length, take, drop, length-take, length-drop}
-use Rattle.wellfounded.specs.Lists.{tabulate}
-use Rattle.wellfounded.specs.Literals.{bodyAt}
+use lib.ListN.{length}
+use Rattle.wellfounded.specs.Lists.{tabulate, sumBelow}
 use Rattle.wellfounded.specs.Definitions.{Rule}
 use Rattle.wellfounded.proofs.Lists.{length-tabulate}
-use Rattle.tables.specs.Rows.{ruleCount, ruleStart, ruleSize, ruleBody, ruleAt, rulesOf, clauseCount, clauseStart, clauseSize, clauseAt, clausesOf}
+use Rattle.wellfounded.proofs.Sums.{sum-front, sum-same}
+use Rattle.wellfounded.proofs.Scan.{body-long}
+use Rattle.tables.specs.Rows.{ruleCount, ruleStart, ruleSize, ruleBody, ruleAt, rulesOf, literalsByRule, clauseCount, clauseStart, clauseSize, clauseAt, clausesOf}
 use Rattle.tables.specs.Loads.{Term, Load, loadCount, loadSize, termsAt, loadAt, loadsOf}
-use Rattle.writing.specs.Writing.{sumBelow}
-
--- A sum from its front, and sums that agree term by term.
-pub sum-front : (n : ℕ) (f : ℕ → ℕ) → sumBelow (suc n) f ≡ f 0 + sumBelow n (λ k. f (suc k))
-unfolding sumBelow
-sum-front zero f = omega arith
-sum-front (suc n) f = let before = sum-front n f in omega arith
-
-pub sum-same : (n : ℕ) (f g : ℕ → ℕ) → ((k : ℕ) → k < n → f k ≡ g k) → sumBelow n f ≡ sumBelow n g
-unfolding sumBelow
-sum-same zero f g h = refl
-sum-same (suc n) f g h = let before = sum-same n f g (λ k l. h k (omega arith)) in omega (arith, h n (omega arith))
-
--- A row ends within the sum of all.
-pub sum-within : (f : ℕ → ℕ) (row n : ℕ) → row < n → sumBelow row f + f row ≤ sumBelow n f
-unfolding sumBelow
-sum-within f row zero l = absurd (omega arith)
-sum-within f row (suc n) l =
-    ⊎-elim (λ (e : row ≡ n). rw e (omega arith)) (λ (b : row < n). omega (arith, sum-within f row n b)) (eq-or-lt-of-le (le-of-suc-le-suc l))
 
 module _ {A : Type 0} where
   -- How much the elements of a list come to.
@@ -45,15 +24,10 @@ module _ {A : Type 0} where
   total-tabulate g zero f = unfold sumBelow in refl
   total-tabulate g (suc n) f = ap (λ (m : ℕ). g (f 0) + m) (total-tabulate g n (λ k. f (suc k))) ∙ sym (sum-front n (λ k. g (f k)))
 
--- A body within its table is as long as its row says.
-body-long : (literals : List ℕ) (start size : ℕ) → start + size ≤ length literals → length (bodyAt literals start size) ≡ size
-unfolding bodyAt
-body-long literals start size h = rw (length-take, length-drop) (omega arith)
-
 pub rules-total :
     (rules literals : List ℕ) → ((row : ℕ) → row < ruleCount rules → ruleStart rules row + ruleSize rules row ≤ length literals) →
-    total (λ (r : Rule). length (r .body)) (rulesOf rules literals) ≡ sumBelow (ruleCount rules) (ruleSize rules)
-unfolding rulesOf ruleAt ruleBody
+    total (λ (r : Rule). length (r .body)) (rulesOf rules literals) ≡ literalsByRule rules
+unfolding rulesOf ruleAt ruleBody literalsByRule
 rules-total rules literals within =
     total-tabulate (λ (r : Rule). length (r .body)) (ruleCount rules) (ruleAt rules literals)
     ∙ sum-same _ _ _ (λ row l. body-long literals _ _ (within row l))

@@ -4,10 +4,11 @@ use mathlib.Core.Path.{_≡_}
 use mathlib.Core.List.{List}
 use lib.IntN.{pos}
 use lib.ListN.{length, getD}
+use Rattle.wellfounded.specs.Lists.{sumBelow}
 use Rattle.tables.specs.declared.Fault.{Fault}
 use Rattle.tables.specs.declared.Verdict.the-variants.{Accepted, Refused}
 use Rattle.tables.specs.Limits.{maxValue, maxLevel}
-use Rattle.tables.specs.Rows.{ruleCount, ruleStart, ruleSize, rulesOf, clauseCount, clauseStart, clauseSize, clausesOf}
+use Rattle.tables.specs.Rows.{ruleCount, ruleStart, ruleSize, rulesOf, literalsByRule, clauseCount, clauseStart, clauseSize, clausesOf}
 use Rattle.tables.specs.Loads.{loadCount, loadEntry, loadSize, loadsOf}
 use Rattle.tables.specs.Sound.{Tables, claimSlices, Sound}
 use Rattle.judging.specs.declared.reached.Judged.the-variants.{Failed}
@@ -20,7 +21,7 @@ use Rattle.booktext.specs.Answers.{answerOf, Reads}
 use Rattle.booktext.specs.UsedParts.{usedIn, usedParts, tablesOf}
 use Rattle.writing.specs.declared.Written.{Written}
 use Rattle.writing.specs.BookForms.{textOf}
-use Rattle.writing.specs.Writing.{sumBelow, literalsByRow, termsByRow, writeOf}
+use Rattle.writing.specs.Writing.{literalsByRow, termsByRow, writeOf}
 
 -- How many entries of each table a book and its claim take once they are written and read: as many rows as before, literals and terms
 -- counted by row, and N marks, values and levels.
@@ -58,7 +59,7 @@ pub record Consecutive (t : Tables) : Type 0 where
   pub rules : (row : ℕ) → row < ruleCount (t .rules) → ruleStart (t .rules) row ≡ sumBelow row (ruleSize (t .rules))
   pub clauses :
       (row : ℕ) → row < clauseCount (t .clauses) →
-      clauseStart (t .clauses) row ≡ sumBelow (ruleCount (t .rules)) (ruleSize (t .rules)) + sumBelow row (clauseSize (t .clauses))
+      clauseStart (t .clauses) row ≡ literalsByRule (t .rules) + sumBelow row (clauseSize (t .clauses))
   pub loads : (row : ℕ) → row < loadCount (t .loads) → loadEntry (t .loads) row 2 ≡ pos (sumBelow row (loadSize (t .loads)))
 
 -- What was written comes back: the text is accepted with its claim, exactly the entries that it takes are used, and their parts of the tables

@@ -2,7 +2,7 @@
 -- Assumes nothing.
 use Rattle.wellfounded.proofs.Computes.{computes as wellfounded-computes}
 use Rattle.tables.specs.Faults.{orAt, lowest, refusedOr, firstFault}
-use Rattle.tables.specs.Rows.{ruleCount, ruleHead, ruleStart, ruleSize, ruleBody, ruleAt, rulesOf, headsRule, isDeclared, definedBy}
+use Rattle.tables.specs.Rows.{ruleCount, ruleHead, ruleStart, ruleSize, ruleBody, ruleAt, rulesOf, literalsByRule, headsRule, isDeclared, definedBy}
 use Rattle.tables.specs.Rows.{definitionOf}
 use Rattle.tables.specs.Rows.{clauseCount, clauseStart, clauseSize, clauseAt, clausesOf}
 use Rattle.tables.specs.Loads.{loadCount, indexOf, loadEntry, loadLow, loadHigh, loadStart, loadSize, termAt, termsAt, loadAt}
@@ -16,7 +16,7 @@ unfolding orAt lowest refusedOr firstFault
 opens-faults = tt
 
 unfoldable opens-rules : Unit {0}
-unfolding ruleCount ruleHead ruleStart ruleSize ruleBody ruleAt rulesOf headsRule isDeclared definedBy definitionOf
+unfolding ruleCount ruleHead ruleStart ruleSize ruleBody ruleAt rulesOf literalsByRule headsRule isDeclared definedBy definitionOf
 opens-rules = tt
 
 unfoldable opens-clauses : Unit {0}

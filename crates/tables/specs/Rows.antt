@@ -4,7 +4,7 @@ use mathlib.Core.Bool.{Bool, _||_}
 use mathlib.Core.List.{List}
 use lib.Dec.{eqb}
 use lib.ListN.{length, getD}
-use Rattle.wellfounded.specs.Lists.{anyBelow, tabulate}
+use Rattle.wellfounded.specs.Lists.{anyBelow, sumBelow, tabulate}
 use Rattle.wellfounded.specs.Literals.{bodyAt}
 use Rattle.wellfounded.specs.Definitions.{Rule, Definition}
 
@@ -32,6 +32,10 @@ ruleAt rules literals row = record { head = ruleHead rules row; body = ruleBody 
 
 unfoldable pub rulesOf : List ℕ → List ℕ → List Rule
 rulesOf rules literals = tabulate (ruleCount rules) (ruleAt rules literals)
+
+-- The literals of all bodies, counted by rule: what rules share counts for each of them.
+unfoldable pub literalsByRule : List ℕ → ℕ
+literalsByRule rules = sumBelow (ruleCount rules) (ruleSize rules)
 
 -- Whether some rule has the atom as its head.
 unfoldable pub headsRule : List ℕ → ℕ → Bool

@@ -2,11 +2,14 @@
 ghost use mathlib.Core.Path.{_≡_};
 ghost use Rattle.tables.specs.Faults.{faultNumber, numberOf, positionOf};
 
+pub mod entries;
 pub mod load_rows;
 pub mod marks;
+pub mod refusals;
 mod row_faults;
 pub mod rows;
 pub mod sizes;
+pub mod totals;
 pub mod values;
 
 // Where a search found what it looks for.
@@ -37,6 +40,7 @@ pub enum Fault {
     FailingLoad,
     Mark,
     TextSize,
+    IndexSize,
 }
 
 // What every call answers: accepted, or refused for a fault at a position.
@@ -70,6 +74,7 @@ pub fn fault_number(fault: Fault) -> usize
         Fault::FailingLoad => 27,
         Fault::Mark => 31,
         Fault::TextSize => 32,
+        Fault::IndexSize => 33,
     }
 }
 

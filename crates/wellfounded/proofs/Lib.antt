@@ -2,6 +2,7 @@
 pub mod Theorems
 pub mod Tests
 pub mod Lists
+pub mod Sums
 pub mod InPlace
 pub mod Reaches
 pub mod Literals

@@ -6,7 +6,7 @@ use mathlib.Core.Bool.{Bool, true, false}
 use mathlib.Core.List.{List, [], _∷_, List·Memᴰ, Memᴰ·append-left, Memᴰ·append-right}
 use native.Mathlib.Numerals.{add-one}
 use native.Mathlib.Omega.{arith}
-use lib.ListN.{length, getD, take, drop, length-drop, take-append-drop}
+use lib.ListN.{length, getD, take, drop, length-take, length-drop, take-append-drop}
 use lib.Seq.{drop-cons, take-all, getD-drop}
 use Rattle.wellfounded.specs.Lists.{all, any}
 use Rattle.wellfounded.specs.Literals.{atomOf, bodyAt}
@@ -96,6 +96,11 @@ part-scannable {literals} {start} s =
     })
 
 -- ── A body's literals are entries of the table ──
+
+-- A body within its table is as long as its row says.
+pub body-long : (literals : List ℕ) (start size : ℕ) → start + size ≤ length literals → length (bodyAt literals start size) ≡ size
+unfolding bodyAt
+body-long literals start size h = rw (length-take, length-drop) (omega arith)
 
 pub body-member : (literals : List ℕ) (start size : ℕ) {l : ℕ} → List·Memᴰ l (bodyAt literals start size) → List·Memᴰ l literals
 unfolding bodyAt

@@ -1,7 +1,7 @@
 -- The few general notions on lists and numbers that the other definitions are written in.
 use Prim.Native.Nat.{ℕ, zero, suc, _+_}
 use mathlib.Core.Bool.{Bool, true, false, cond, _&&_, _||_}
-use mathlib.Core.List.{List, [], _∷_}
+use mathlib.Core.List.{List, [], _∷_, _++_}
 use lib.Dec.{eqb}
 
 module _ {A : Type 0} where
@@ -39,6 +39,21 @@ anyBelow (suc n) p = anyBelow n p || p n
 unfoldable pub count : ℕ → (ℕ → Bool) → ℕ
 count zero p = zero
 count (suc n) p = cond (p n) 1 0 + count n p
+
+-- f 0 + f 1 + .. + f (n - 1).
+unfoldable pub sumBelow : ℕ → (ℕ → ℕ) → ℕ
+sumBelow zero f = 0
+sumBelow (suc n) f = sumBelow n f + f n
+
+-- f 0, f 1, .. f (n - 1), one after the other.
+unfoldable pub joinBelow : ℕ → (ℕ → List ℕ) → List ℕ
+joinBelow zero f = []
+joinBelow (suc n) f = joinBelow n f ++ f n
+
+-- How often a number stands in a list.
+unfoldable pub occurs : ℕ → List ℕ → ℕ
+occurs x [] = 0
+occurs x (y ∷ ys) = cond (eqb x y) 1 0 + occurs x ys
 
 -- The least number below n that passes the test, or n if none does.
 unfoldable pub least : ℕ → (ℕ → Bool) → ℕ

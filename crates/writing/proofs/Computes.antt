@@ -5,14 +5,14 @@ use Rattle.forms.proofs.Computes.{computes as forms-computes}
 use Rattle.format.specs.Forms.{partsBytes}
 use Rattle.writing.specs.BookForms.{literalText, termText, ruleFormOf, clauseFormOf, loadFormOf, markedAtom, markedAtoms, definedForms, pairsOf}
 use Rattle.writing.specs.BookForms.{bookForms, textOf}
-use Rattle.writing.specs.Writing.{sumBelow, literalsByRow, termsByRow, rowsFit, bytesFit, textTest, writeTests, writeOf, writtenOf, bufferAfter}
+use Rattle.writing.specs.Writing.{literalsByRow, termsByRow, rowsFit, bytesFit, textTest, writeTests, writeOf, writtenOf, bufferAfter}
 
 unfoldable opens-texts : Unit {0}
 unfolding partsBytes literalText termText ruleFormOf clauseFormOf loadFormOf markedAtom markedAtoms definedForms pairsOf bookForms textOf
 opens-texts = tt
 
 unfoldable opens-writing : Unit {0}
-unfolding sumBelow literalsByRow termsByRow rowsFit bytesFit textTest writeTests writeOf writtenOf bufferAfter
+unfolding literalsByRow termsByRow rowsFit bytesFit textTest writeTests writeOf writtenOf bufferAfter
 opens-writing = tt
 
 unfoldable pub computes : Unit {0}

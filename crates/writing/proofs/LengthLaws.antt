@@ -13,15 +13,14 @@ use mir.Syntax.{w16, w32}
 use mir.Val.{SFits, toZ, ofZ, boolByte}
 use mir.Facts.{toZ-ofZ}
 use borrow.Author.Tests.{eqb-true, eqb-false}
-use Rattle.wellfounded.specs.Lists.{count}
+use Rattle.wellfounded.specs.Lists.{count, joinBelow}
+use Rattle.wellfounded.proofs.Sums.{join-more}
 use Rattle.wellfounded.specs.Literals.{atomOf, isNegated}
 use Rattle.wellfounded.proofs.Tests.{decided}
 use Rattle.tables.specs.Limits.{maxAtoms}
 use Rattle.tables.specs.Rows.{isDeclared}
 use Rattle.tables.specs.internal.Marks.{isMarked}
 use Rattle.format.specs.Forms.{space, decimal, signed, literalBytes, renderAll}
-use Rattle.printing.specs.Joined.{joinBelow}
-use Rattle.printing.proofs.Joining.{join-more}
 use Rattle.writing.specs.BookForms.{literalText, markedAtoms, definedForms}
 use Rattle.writing.specs.internal.Parts.{markPart}
 use Rattle.writing.specs.internal.Counting.{Counts, maxEntries, maxLine, maxLines}

@@ -11,14 +11,13 @@ use mir.Syntax.{w16, w32}
 use mir.Val.{SFits, toZ, ofZ}
 use mir.Facts.{toZ-ofZ, sfits-widen}
 use borrow.Author.Tests.{eq-eqb, ne-eqb}
-use Rattle.wellfounded.specs.Lists.{tabulate, count}
+use Rattle.wellfounded.specs.Lists.{tabulate, count, joinBelow}
 use Rattle.wellfounded.specs.Literals.{atomOf, isNegated}
 use Rattle.tables.specs.Rows.{isDeclared}
 use Rattle.tables.specs.internal.Marks.{isMarked}
 use Rattle.tables.specs.Loads.{termAt}
 use Rattle.format.specs.Forms.{Form, claimForm, space, opening, closing, lineEnd, notWord, claimWord, definedWord}
 use Rattle.format.specs.Forms.{decimal, signed, literalBytes, termBytes, pairBytes, partsBytes, render, renderAll}
-use Rattle.printing.specs.Joined.{joinBelow}
 use Rattle.printing.specs.internal.Putting.{Puts, maxPrinted}
 use Rattle.printing.proofs.PutLaws.{puts-then, puts-behind}
 use Rattle.writing.specs.BookForms.{markedAtom, markedAtoms, definedForms, pairsOf, literalText, termText, claimedPair}

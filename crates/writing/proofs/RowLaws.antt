@@ -10,7 +10,7 @@ use lib.Seq.{getD-drop}
 use mir.Syntax.{w32}
 use mir.Val.{SFits, toZ, ofZ}
 use mir.Facts.{toZ-ofZ}
-use Rattle.wellfounded.specs.Lists.{tabulate}
+use Rattle.wellfounded.specs.Lists.{tabulate, joinBelow}
 use Rattle.wellfounded.specs.Literals.{bodyAt}
 use Rattle.wellfounded.proofs.Scan.{part-is}
 use Rattle.tables.specs.Rows.{ruleCount, ruleHead, ruleStart, ruleSize, ruleBody, ruleAt, rulesOf}
@@ -18,7 +18,6 @@ use Rattle.tables.specs.Rows.{clauseCount, clauseStart, clauseSize, clauseAt, c
 use Rattle.tables.specs.Loads.{loadCount, loadLow, loadHigh, loadStart, loadSize, termAt, termsAt, loadAt, loadsOf}
 use Rattle.format.specs.Forms.{space, lineEnd, ruleWord, clauseWord, loadWord}
 use Rattle.format.specs.Forms.{decimal, signed, literalBytes, termBytes, render, renderAll}
-use Rattle.printing.specs.Joined.{joinBelow}
 use Rattle.printing.specs.internal.Putting.{Puts, maxPrinted}
 use Rattle.printing.proofs.PutLaws.{puts-then, puts-behind}
 use Rattle.printing.proofs.Joining.{Joined, joined-fits, joined-end}

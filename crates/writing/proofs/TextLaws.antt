@@ -5,13 +5,12 @@ use mathlib.Core.Path.{_≡_, refl, ap, _∙_}
 use mathlib.Core.List.{List, [], _∷_, _++_, map, append-assoc}
 use lib.IntN.{ℤ}
 use lib.ListN.{length, length-append}
-use Rattle.wellfounded.specs.Lists.{count}
+use Rattle.wellfounded.specs.Lists.{count, joinBelow}
 use Rattle.tables.specs.Rows.{rulesOf, clausesOf}
 use Rattle.tables.specs.Loads.{loadsOf}
 use Rattle.tables.specs.Sound.{Tables}
 use Rattle.tables.specs.internal.Marks.{isMarked}
 use Rattle.format.specs.Forms.{atomsForm, claimForm, space, atomsWord, claimWord, definedWord, decimal, render, renderAll}
-use Rattle.printing.specs.Joined.{joinBelow}
 use Rattle.printing.specs.internal.Putting.{Puts}
 use Rattle.printing.proofs.PutLaws.{puts-then}
 use Rattle.writing.specs.BookForms.{ruleFormOf, clauseFormOf, loadFormOf, markedAtoms, definedForms, pairsOf, bookForms, textOf}

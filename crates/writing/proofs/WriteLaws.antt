@@ -2,22 +2,19 @@
 -- Assumes nothing.
 use Prim.Native.Nat.{ℕ, _≤_}
 use mathlib.Core.Path.{_≡_, refl, sym, ap, ap₂, _∙_}
-use mathlib.Core.Bool.{Bool, true, false, not, _&&_, cond}
+use mathlib.Core.Bool.{true, false, not, _&&_}
 use mathlib.Core.List.{List, [], _∷_}
 use lib.Dec.{leb}
 use lib.ListN.{length}
-use borrow.Author.Tests.{leb-true, not-true, not-false}
+use borrow.Author.Tests.{leb-true}
 use Rattle.wellfounded.proofs.Tests.{both, second, and-left, and-right}
-use Rattle.tables.specs.declared.Found.{Found}
-use Rattle.tables.specs.declared.Found.the-variants.{At, Nothing}
 use Rattle.tables.specs.declared.Fault.{Fault}
-use Rattle.tables.specs.declared.Fault.the-variants.{Mark, TextSize}
+use Rattle.tables.specs.declared.Fault.the-variants.{TextSize}
 use Rattle.tables.specs.declared.Verdict.{Verdict}
 use Rattle.tables.specs.declared.Verdict.the-variants.{Accepted, Refused}
-use Rattle.tables.specs.Faults.{Test, lowest, refusedOr, firstFault}
-use Rattle.tables.specs.Values.{notHeld}
-use Rattle.tables.specs.Sound.{Tables, markTest}
-use Rattle.tables.proofs.Faults.{first-passes, first-fails, once-passes, once-fails, refused-accepted}
+use Rattle.tables.specs.Faults.{firstFault}
+use Rattle.tables.specs.Sound.{Tables}
+use Rattle.tables.proofs.Faults.{first-passes, first-fails, once-passes, once-fails}
 use Rattle.judging.specs.Judging.{maxBytes}
 use Rattle.forms.proofs.OverLaws.{sets-front}
 use Rattle.printing.specs.internal.Putting.{Puts}
@@ -64,23 +61,6 @@ verdict-as {verdict} {text} w = ap (λ (a : Written). a .verdict) (w .answered) 
 
 -- ── The verdict ──
 
--- The first of two refusals: for the mark that was found, or else for rows that do not fit.
-module _ (mark : Found) (fit : Bool) where
-  abbrev pub firstOf : Verdict
-  firstOf = refusedOr Mark mark (cond fit Accepted (Refused TextSize 0))
-
-  pub mark-refuses : (atom : ℕ) → mark ≡ At atom → Refused Mark atom ≡ firstOf
-  unfolding refusedOr
-  mark-refuses atom e = rw e
-
-  pub unfit-refuses : mark ≡ Nothing → not fit ≡ true → Refused TextSize 0 ≡ firstOf
-  unfolding refusedOr
-  unfit-refuses none unfit = rw (none, not-true fit unfit)
-
-  pub neither-refuses : mark ≡ Nothing → not fit ≡ false → Accepted ≡ firstOf
-  unfolding refusedOr
-  neither-refuses none fits = rw (none, not-false fit fits)
-
 module _ (t : Tables) (values levels : List ℕ) (room : ℕ) where
   text-refuses :
       (rowsFit (t .rules) (t .clauses) (t .loads) && bytesFit (length (textOf t values levels)) room) ≡ false →
@@ -88,7 +68,7 @@ module _ (t : Tables) (values levels : List ℕ) (room : ℕ) where
   unfolding textTest
   text-refuses e = first-fails _ [] 0 (once-fails _ (ap not e))
 
-  rows-refuse : rowsFit (t .rules) (t .clauses) (t .loads) ≡ false → firstFault (textTest t values levels room ∷ []) ≡ Refused TextSize 0
+  pub rows-refuse : rowsFit (t .rules) (t .clauses) (t .loads) ≡ false → firstFault (textTest t values levels room ∷ []) ≡ Refused TextSize 0
   rows-refuse e = text-refuses (and-left _ _ e)
 
   pub bytes-refuse : bytesFit (length (textOf t values levels)) room ≡ false → firstFault (textTest t values levels room ∷ []) ≡ Refused TextSize 0
@@ -104,27 +84,3 @@ module _ (t : Tables) (values levels : List ℕ) (room : ℕ) where
   pub bytes-within : bytesFit (length (textOf t values levels)) room ≡ true → length (textOf t values levels) ≤ room
   unfolding bytesFit
   bytes-within fit = leb-true _ _ (second (leb (length (textOf t values levels)) maxBytes) _ fit)
-
-  -- Marks and then rows refuse as the tests do, or leave the verdict to the bytes of the text.
-  module _ (many : length (t .marks) ≡ t .atoms) where
-    mark-found : {mark : Found} → mark ≡ lowest (length (t .marks)) (notHeld (t .marks)) → lowest (t .atoms) (notHeld (t .marks)) ≡ mark
-    mark-found is = rw many at (sym is)
-
-    pub early-refuses :
-        (mark : Found) (fit : Bool) (fault : Fault) (position : ℕ) → mark ≡ lowest (length (t .marks)) (notHeld (t .marks)) →
-        fit ≡ rowsFit (t .rules) (t .clauses) (t .loads) → firstOf mark fit ≡ Refused fault position →
-        firstFault (markTest t ∷ textTest t values levels room ∷ []) ≡ Refused fault position
-    unfolding refusedOr markTest
-    early-refuses (At atom) fit fault position is fits e = first-fails (markTest t) _ atom (mark-found is) ∙ e
-    early-refuses Nothing false fault position is fits e = first-passes (markTest t) _ (mark-found is) ∙ rows-refuse (sym fits) ∙ e
-    early-refuses Nothing true fault position is fits e = absurd (refused-accepted (sym e))
-
-    pub early-leaves :
-        (mark : Found) (fit : Bool) → mark ≡ lowest (length (t .marks)) (notHeld (t .marks)) → fit ≡ rowsFit (t .rules) (t .clauses) (t .loads) →
-        firstOf mark fit ≡ Accepted →
-        (firstFault (markTest t ∷ textTest t values levels room ∷ []) ≡ firstFault (textTest t values levels room ∷ []))
-        × (rowsFit (t .rules) (t .clauses) (t .loads) ≡ true)
-    unfolding refusedOr markTest
-    early-leaves (At atom) fit is fits e = absurd (refused-accepted e)
-    early-leaves Nothing false is fits e = absurd (refused-accepted e)
-    early-leaves Nothing true is fits e = (first-passes (markTest t) _ (mark-found is), sym fits)

@@ -3,7 +3,7 @@ use Prim.Native.Nat.{ℕ}
 use mathlib.Core.Bool.{cond}
 use mathlib.Core.List.{List, [], _∷_, _++_, map}
 use lib.ListN.{getD}
-use Rattle.wellfounded.specs.Lists.{tabulate}
+use Rattle.wellfounded.specs.Lists.{tabulate, joinBelow}
 use Rattle.wellfounded.specs.Literals.{atomOf, isNegated}
 use Rattle.wellfounded.specs.Definitions.{Rule}
 use Rattle.tables.specs.Rows.{isDeclared, rulesOf, clausesOf}
@@ -11,7 +11,6 @@ use Rattle.tables.specs.Loads.{Term, Load, loadsOf}
 use Rattle.tables.specs.Sound.{Tables}
 use Rattle.format.specs.Forms.{LiteralText, TermText, PairText, renderAll}
 use Rattle.format.specs.Forms.{Form, atomsForm, ruleForm, clauseForm, loadForm, claimForm, definedForm}
-use Rattle.printing.specs.Joined.{joinBelow}
 
 -- A literal as it is stored, and a term, as a text writes them.
 unfoldable pub literalText : ℕ → LiteralText

@@ -1,17 +1,18 @@
 -- What the writer answers, and what it leaves in the lent buffer.
-use Prim.Native.Nat.{ℕ, zero, suc, _+_, _≤_}
+use Prim.Native.Nat.{ℕ, _+_, _≤_}
 use mathlib.Core.Path.{_≡_}
 use mathlib.Core.Bool.{Bool, not, _&&_}
 use mathlib.Core.List.{List, [], _∷_, _++_}
 use lib.Dec.{leb}
 use lib.IntN.{ℤ}
 use lib.ListN.{length}
+use Rattle.wellfounded.specs.Lists.{sumBelow}
 use Rattle.tables.specs.declared.Fault.the-variants.{TextSize}
 use Rattle.tables.specs.declared.Verdict.{Verdict}
 use Rattle.tables.specs.declared.Verdict.the-variants.{Accepted, Refused}
 use Rattle.tables.specs.Limits.{maxLiterals, maxTerms}
 use Rattle.tables.specs.Faults.{Test, firstFault}
-use Rattle.tables.specs.Rows.{ruleCount, ruleSize, clauseCount, clauseSize}
+use Rattle.tables.specs.Rows.{literalsByRule, clauseCount, clauseSize}
 use Rattle.tables.specs.Loads.{loadCount, loadSize}
 use Rattle.tables.specs.Sound.{Tables, claimSlices, lentTests}
 use Rattle.judging.specs.Judging.{maxBytes}
@@ -19,14 +20,9 @@ use Rattle.forms.specs.Contents.{over}
 use Rattle.writing.specs.declared.Written.{Written}
 use Rattle.writing.specs.BookForms.{textOf}
 
--- f 0 + f 1 + .. + f (n - 1).
-unfoldable pub sumBelow : ℕ → (ℕ → ℕ) → ℕ
-sumBelow zero f = 0
-sumBelow (suc n) f = sumBelow n f + f n
-
 -- The literals of rules and clauses, and the terms of load lines, counted by row: what rows share counts for each of them.
 unfoldable pub literalsByRow : List ℕ → List ℕ → ℕ
-literalsByRow rules clauses = sumBelow (ruleCount rules) (ruleSize rules) + sumBelow (clauseCount clauses) (clauseSize clauses)
+literalsByRow rules clauses = literalsByRule rules + sumBelow (clauseCount clauses) (clauseSize clauses)
 
 unfoldable pub termsByRow : List ℤ → ℕ
 termsByRow loads = sumBelow (loadCount loads) (loadSize loads)

@@ -1,11 +1,9 @@
 // The writer of book texts.
 ghost use mathlib.Core.Path.{_≡_};
-ghost use mathlib.Core.Bool.{cond};
 ghost use mathlib.Core.List.{[], _∷_};
 ghost use lib.ListN.{length};
-ghost use Rattle.tables.specs.declared.Fault.the-variants.{Mark, TextSize};
-ghost use Rattle.tables.specs.declared.Verdict.the-variants.{Accepted, Refused};
-ghost use Rattle.tables.specs.Faults.{refusedOr, firstFault};
+ghost use Rattle.tables.specs.declared.Verdict.the-variants.{Refused};
+ghost use Rattle.tables.specs.Faults.{firstFault};
 ghost use Rattle.tables.specs.Sound.{lent, markTest};
 ghost use Rattle.writing.specs.BookForms.{textOf};
 ghost use Rattle.writing.specs.Writing.{bytesFit, textTest, Writes};
@@ -21,8 +19,8 @@ mod totals;
 use book::put_book;
 use lengths::book_length;
 use tables::Fault;
-use tables::Found;
 use tables::Verdict;
+use tables::refusals::first_refusal;
 use tables::sizes::MAX_BYTES;
 use tables::sizes::table_fault;
 use tables::values::not_held_atom;
@@ -42,19 +40,6 @@ fn refused(fault: Fault, position: usize) -> Written
         verdict: Verdict::Refused(fault, position),
         length: 0,
     }
-}
-
-// The first refusal before a byte is counted: for a mark that is neither 0 nor 1, or else for too many literals or terms.
-fn first_refusal(mark: Found, fit: bool) -> Verdict
-    ensures { λ r. ⌜ r ≡ refusedOr Mark mark (cond fit Accepted (Refused TextSize 0)) ⌝ }
-{
-    if let Found::At(atom) = mark {
-        return Verdict::Refused(Fault::Mark, atom);
-    }
-    if !fit {
-        return Verdict::Refused(Fault::TextSize, 0);
-    }
-    Verdict::Accepted
 }
 
 // Whether so many bytes are within the limit of a text and within the buffer.
@@ -93,7 +78,7 @@ fn write_lent(
 {
     let mark = not_held_atom(marks);
     let fit = rows_fit(rules, clauses, loads);
-    let early = first_refusal(mark, fit);
+    let early = first_refusal(mark, fit, Fault::TextSize);
     if let Verdict::Refused(fault, position) = early {
         return refused(fault, position);
     }

@@ -2,32 +2,17 @@
 ghost use mathlib.Core.Path.{_≡_};
 ghost use Prim.Native.Nat.{_≤_};
 ghost use lib.ListN.{length};
-ghost use Rattle.tables.specs.Rows.{ruleCount, ruleSize, clauseCount, clauseSize};
+ghost use Rattle.wellfounded.specs.Lists.{sumBelow};
+ghost use Rattle.tables.specs.Rows.{clauseCount, clauseSize};
 ghost use Rattle.tables.specs.Loads.{loadCount, loadSize};
-ghost use Rattle.writing.specs.Writing.{sumBelow, rowsFit};
+ghost use Rattle.writing.specs.Writing.{rowsFit};
 use tables::load_rows::load_count;
 use tables::load_rows::load_size;
 use tables::rows::clause_count;
 use tables::rows::clause_size;
-use tables::rows::rule_count;
-use tables::rows::rule_size;
 use tables::sizes::MAX_LITERALS;
 use tables::sizes::MAX_TERMS;
-
-// The literals of all rules.
-fn rules_total(rules: &[u16]) -> usize
-    requires { ⌜ length (now rules) ≤ 65536 ⌝ }
-    ensures { λ r. ⌜ (r ≡ sumBelow (ruleCount (now (rules .entry))) (ruleSize (now (rules .entry)))) × (r ≤ 4294967296) ⌝ }
-{
-    let rows = rule_count(rules);
-    let mut total = 0;
-    let mut row = 0;
-    while row < rows {
-        total += rule_size(rules, row);
-        row += 1;
-    }
-    total
-}
+use tables::totals::rules_total;
 
 // The literals of all clauses.
 fn clauses_total(clauses: &[u16]) -> usize

@@ -50,6 +50,8 @@ pub struct Sample {
     pub open: Vec<u8>,
     pub claim: Claim,
     pub rounds: u64,
+    /// How many entries its index has.
+    pub occurrences: usize,
 }
 
 /// A book with its text in either state form.
@@ -88,7 +90,8 @@ fn sample(family: Family, measure: Measure, random: &mut Random) -> Sample {
         mixed::add_demands(&mut book, &claim, measure, random);
         (claim, rounds) = made(&book, &open);
     }
-    Sample { book, open, claim, rounds }
+    let occurrences = indexed(&book);
+    Sample { book, open, claim, rounds, occurrences }
 }
 
 /// The maker's claim and rounds. The families are made so that it is accepted.
@@ -97,6 +100,14 @@ fn made(book: &Book, open: &[u8]) -> (Claim, u64) {
     let answer = Fast.evaluate(book.tables(), open, &mut claim.values, &mut claim.levels, &mut vec![0; book.n]);
     assert_eq!(answer as u32, 0, "a book of the benchmarks is refused");
     (claim, answer >> 32)
+}
+
+/// The number of entries. The families are made so that every book has an index.
+fn indexed(book: &Book) -> usize {
+    let occurrences = book.rules.chunks(3).map(|row| usize::from(row[2])).sum();
+    let answer = Fast.index(book.tables(), &mut vec![0; 2 * book.n + 1], &mut vec![0; occurrences]);
+    assert_eq!(answer, 0, "a book of the benchmarks has no index");
+    occurrences
 }
 
 fn texts(sample: Sample) -> Texts {

@@ -9,6 +9,7 @@ pub enum Measured {
     Read,
     Write,
     Check,
+    Index,
     Evaluate,
     VerdictOnClaim,
     VerdictOnOpen,
@@ -16,10 +17,11 @@ pub enum Measured {
 }
 
 impl Measured {
-    pub const ALL: [Measured; 7] = [
+    pub const ALL: [Measured; 8] = [
         Measured::Read,
         Measured::Write,
         Measured::Check,
+        Measured::Index,
         Measured::Evaluate,
         Measured::VerdictOnClaim,
         Measured::VerdictOnOpen,
@@ -31,6 +33,7 @@ impl Measured {
             Measured::Read => "battenplum_read",
             Measured::Write => "battenplum_write",
             Measured::Check => "battenplum_check",
+            Measured::Index => "battenplum_index",
             Measured::Evaluate => "battenplum_evaluate",
             Measured::VerdictOnClaim => "battenplum_verdict on a claim",
             Measured::VerdictOnOpen => "battenplum_verdict on an open form",
@@ -42,7 +45,7 @@ impl Measured {
     pub fn unit(self) -> &'static str {
         match self {
             Measured::Read | Measured::Write | Measured::VerdictOnClaim => "byte",
-            Measured::Check => "literal",
+            Measured::Check | Measured::Index => "literal",
             Measured::Evaluate => "literal and round",
             Measured::VerdictOnOpen | Measured::ReportOnOpen => "byte and round",
         }
@@ -53,7 +56,7 @@ impl Measured {
         let rounds = |rounds: u64| (rounds + 1) as usize;
         let units: usize = match self {
             Measured::Read | Measured::Write | Measured::VerdictOnClaim => books.texts.iter().map(|text| text.claim.len()).sum(),
-            Measured::Check => books.samples.iter().map(|sample| sample.book.entries()).sum(),
+            Measured::Check | Measured::Index => books.samples.iter().map(|sample| sample.book.entries()).sum(),
             Measured::Evaluate => books.samples.iter().map(|sample| sample.book.entries() * rounds(sample.rounds)).sum(),
             Measured::VerdictOnOpen | Measured::ReportOnOpen => {
                 books.texts.iter().map(|text| text.open.len() * rounds(text.sample.rounds)).sum()
@@ -80,6 +83,7 @@ impl Measured {
                 calls.write(book.tables(), &claim.values, &claim.levels, &mut lent.text)
             }
             Measured::Check => calls.check(tables, &sample.claim.values, &sample.claim.levels).into(),
+            Measured::Index => calls.index(tables, &mut lent.starts[..2 * n + 1], &mut lent.entries[..sample.occurrences]).into(),
             Measured::Evaluate => {
                 calls.evaluate(tables, &sample.open, &mut lent.values[..n], &mut lent.levels[..n], &mut lent.work[..n])
             }
@@ -90,7 +94,7 @@ impl Measured {
     }
 }
 
-/// Tables of full size, the maker's slices, a page and a text, as a host would keep them.
+/// Tables of full size, the maker's slices, a page, a text and an index, as a host would keep them.
 pub struct Lent {
     rules: Vec<u16>,
     literals: Vec<u16>,
@@ -104,6 +108,8 @@ pub struct Lent {
     work: Vec<u16>,
     page: Vec<u8>,
     text: Vec<u8>,
+    starts: Vec<u16>,
+    entries: Vec<u16>,
 }
 
 impl Default for Lent {
@@ -121,6 +127,8 @@ impl Default for Lent {
             work: vec![0; 1_024],
             page: vec![0; PAGE_SIZE],
             text: vec![0; TEXT_MAX],
+            starts: vec![0; 2_049],
+            entries: vec![0; 16_384],
         }
     }
 }

@@ -31,9 +31,9 @@ fn main() {
     println!("Processor: {}. Compiler of `fast`: {}.\n\n{EXPLANATION}", processor(), compiler());
     let families = Family::ALL.map(|family| (family, SIZES.map(|eighths| Books::new(family, eighths))));
     print_families(&families);
-    for measured in Measured::ALL {
-        print_table(measured, &families, patience);
-    }
+    let tables = Measured::ALL.map(|measured| (measured, print_table(measured, &families, patience)));
+    let rows = |wanted| &tables.iter().find(|(measured, _)| *measured == wanted).expect("all calls are measured").1;
+    print_over(Measured::Index, rows(Measured::Index), Measured::Check, rows(Measured::Check));
     print_stack(&families);
 }
 
@@ -60,6 +60,7 @@ fn print_families(families: &[Sizes]) {
 
 /// The times of one call on one family, from the smallest size to the full one.
 struct Row {
+    family: Family,
     times: [Times; 4],
     /// What the times are divided by, at each size.
     units: [f64; 4],
@@ -68,8 +69,9 @@ struct Row {
 }
 
 impl Row {
-    fn new(measured: Measured, sizes: &[Books; 4], patience: Patience) -> Row {
+    fn new(measured: Measured, family: Family, sizes: &[Books; 4], patience: Patience) -> Row {
         Row {
+            family,
             times: measured.times(sizes, patience),
             units: sizes.each_ref().map(|books| measured.units(books)),
             books: sizes[3].samples.len() as f64,
@@ -81,14 +83,14 @@ impl Row {
         (time(&self.times[3]) / self.units[3]) / (time(&self.times[0]) / self.units[0])
     }
 
-    fn print(&self, family: Family) {
+    fn print(&self) {
         let ratios = self.times.map(|times| format!("{:.2}", times.ratio())).join(" | ");
         let micros = [self.times[3].library, self.times[3].fast].map(|time| time / self.books / 1e3);
         let nanos = [self.times[3].library, self.times[3].fast].map(|time| time / self.units[3]);
         let growth = [self.growth(|times| times.library), self.growth(|times| times.fast)];
         println!(
             "| {} | {ratios} | {:.1} | {:.1} | {:.2} | {:.2} | {:.2} | {:.2} |",
-            family.name(),
+            self.family.name(),
             micros[0],
             micros[1],
             nanos[0],
@@ -99,19 +101,34 @@ impl Row {
     }
 }
 
-fn print_table(measured: Measured, families: &[Sizes], patience: Patience) {
+fn print_table(measured: Measured, families: &[Sizes], patience: Patience) -> Vec<Row> {
     let unit = measured.unit();
     println!("\n### {}\n", measured.name());
     println!("| Family | ⅛ | ¼ | ½ | full | µs, library | µs, fast | ns per {unit}, library | fast | growth, library | fast |");
     println!("|---|--:|--:|--:|--:|--:|--:|--:|--:|--:|--:|");
-    let (mut ratio, mut growth) = (0.0, 0.0);
+    let (mut rows, mut ratio, mut growth) = (Vec::new(), 0.0, 0.0);
     for (family, sizes) in families {
-        let row = Row::new(measured, sizes, patience);
-        row.print(*family);
+        let row = Row::new(measured, *family, sizes, patience);
+        row.print();
         ratio = row.times.iter().map(Times::ratio).fold(ratio, f64::max);
         growth = f64::max(growth, row.growth(|times| times.library));
+        rows.push(row);
     }
     println!("\nLargest ratio {ratio:.2}, largest growth {growth:.2}.");
+    rows
+}
+
+/// The library's time for one call over that for another on the same books.
+fn print_over(one: Measured, rows: &[Row], other: Measured, other_rows: &[Row]) {
+    println!("\n### {} over {}\n\n| Family | ⅛ | ¼ | ½ | full |\n|---|--:|--:|--:|--:|", one.name(), other.name());
+    let mut largest = 0.0;
+    for (row, other) in rows.iter().zip(other_rows) {
+        let ratios: Vec<f64> = row.times.iter().zip(&other.times).map(|(one, other)| one.library / other.library).collect();
+        let shown: Vec<String> = ratios.iter().map(|ratio| format!("{ratio:.2}")).collect();
+        println!("| {} | {} |", row.family.name(), shown.join(" | "));
+        largest = ratios.into_iter().fold(largest, f64::max);
+    }
+    println!("\nLargest ratio {largest:.2}.");
 }
 
 /// The most that a call uses on any family's first book of full size.

@@ -50,6 +50,12 @@ pub enum Case {
         levels: Vec<u16>,
         room: usize,
     },
+    /// The index of tables in slices of these lengths.
+    Index {
+        book: Book,
+        starts: usize,
+        entries: usize,
+    },
     /// What the program prints for a text.
     Program {
         text: Vec<u8>,
@@ -65,6 +71,7 @@ impl Case {
             Case::Check { .. } => "check",
             Case::Evaluate { .. } => "evaluate",
             Case::Write { .. } => "write",
+            Case::Index { .. } => "index",
             Case::Program { .. } => "the program",
         }
     }
@@ -80,6 +87,10 @@ impl Case {
 
     pub fn write(book: &Book, values: &[u8], levels: &[u16], room: usize) -> Case {
         Case::Write { book: book.clone(), values: values.to_vec(), levels: levels.to_vec(), room }
+    }
+
+    pub fn index(book: &Book, starts: usize, entries: usize) -> Case {
+        Case::Index { book: book.clone(), starts, entries }
     }
 
     pub fn verdict(text: &[u8]) -> Case {
@@ -130,6 +141,10 @@ impl Display for Case {
                 show_list(out, "values", values)?;
                 show_list(out, "levels", levels)?;
                 writeln!(out, "a buffer of {room} bytes")
+            }
+            Case::Index { book, starts, entries } => {
+                show_tables(out, book)?;
+                writeln!(out, "{starts} starts and {entries} entries")
             }
         }
     }

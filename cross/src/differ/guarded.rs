@@ -41,6 +41,8 @@ struct SlicePages {
     work: Pages,
     answer: Pages,
     page: Pages,
+    starts: Pages,
+    entries: Pages,
 }
 
 /// What the slices that a reading fills hold.
@@ -182,6 +184,17 @@ impl Calls for GuardedLibrary {
             (Library.write(tables, values, levels, text), text.to_vec())
         });
         text.copy_from_slice(&written);
+        answer
+    }
+
+    fn index(&self, tables: Tables, starts: &mut [u16], entries: &mut [u16]) -> u32 {
+        let (answer, built_starts, built_entries) = self.at_both_edges(|pages, edge| {
+            let tables = pages.tables.lend_to_read(&tables, edge);
+            let (starts, entries) = (pages.starts.lend_to_write(starts, edge), pages.entries.lend_to_write(entries, edge));
+            (Library.index(tables, starts, entries), starts.to_vec(), entries.to_vec())
+        });
+        starts.copy_from_slice(&built_starts);
+        entries.copy_from_slice(&built_entries);
         answer
     }
 }

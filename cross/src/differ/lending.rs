@@ -20,6 +20,18 @@ pub struct TableBuffers {
 }
 
 impl TableBuffers {
+    fn none() -> TableBuffers {
+        TableBuffers {
+            rules: Buffer::none(),
+            literals: Buffer::none(),
+            clauses: Buffer::none(),
+            loads: Buffer::none(),
+            load_literals: Buffer::none(),
+            minutes: Buffer::none(),
+            marks: Buffer::none(),
+        }
+    }
+
     fn holding(book: &Book, random: &mut Random) -> TableBuffers {
         TableBuffers {
             rules: Buffer::holding(&book.rules, random),
@@ -81,7 +93,7 @@ impl TableBuffers {
     }
 }
 
-/// A slice that the call does not have is empty here, with its guard entries all the same.
+/// A slice that the call does not have is empty here, and has no guard entries.
 #[derive(Clone, PartialEq)]
 pub struct Lending {
     pub text: Buffer<u8>,
@@ -92,13 +104,15 @@ pub struct Lending {
     pub work: Buffer<u16>,
     pub answer: Buffer<u32>,
     pub page: Buffer<u8>,
+    pub starts: Buffer<u16>,
+    pub entries: Buffer<u16>,
 }
 
 impl Lending {
     /// What is lent before the call. Slices to be written, and whatever stands beside a slice, hold what `noise` gives.
     pub fn of(case: &Case, noise: u64) -> Lending {
         let random = &mut Random::new(noise);
-        let nothing = Lending::nothing(random);
+        let nothing = Lending::nothing();
         match case {
             Case::Verdict { text } | Case::Program { text } => Lending { text: Buffer::holding(text, random), ..nothing },
             Case::Report { text, page } => {
@@ -133,19 +147,27 @@ impl Lending {
                 levels: Buffer::holding(levels, random),
                 ..nothing
             },
+            Case::Index { book, starts, entries } => Lending {
+                tables: TableBuffers::holding(book, random),
+                starts: Buffer::arbitrary(*starts, random),
+                entries: Buffer::arbitrary(*entries, random),
+                ..nothing
+            },
         }
     }
 
-    fn nothing(random: &mut Random) -> Lending {
+    fn nothing() -> Lending {
         Lending {
-            text: Buffer::arbitrary(0, random),
-            tables: TableBuffers::holding(&Book::default(), random),
-            open_values: Buffer::arbitrary(0, random),
-            values: Buffer::arbitrary(0, random),
-            levels: Buffer::arbitrary(0, random),
-            work: Buffer::arbitrary(0, random),
-            answer: Buffer::arbitrary(0, random),
-            page: Buffer::arbitrary(0, random),
+            text: Buffer::none(),
+            tables: TableBuffers::none(),
+            open_values: Buffer::none(),
+            values: Buffer::none(),
+            levels: Buffer::none(),
+            work: Buffer::none(),
+            answer: Buffer::none(),
+            page: Buffer::none(),
+            starts: Buffer::none(),
+            entries: Buffer::none(),
         }
     }
 
@@ -175,6 +197,8 @@ impl Lending {
             ("work", self.work.first_difference(&found.work)),
             ("answer", self.answer.first_difference(&found.answer)),
             ("page", self.page.first_difference(&found.page)),
+            ("starts", self.starts.first_difference(&found.starts)),
+            ("entries", self.entries.first_difference(&found.entries)),
         ];
         let all = self.tables.differences(&found.tables).into_iter().chain(others);
         all.into_iter().find_map(|(name, difference)| difference.map(|place| format!("{name}{place}")))

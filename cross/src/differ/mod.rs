@@ -10,6 +10,7 @@ mod damage;
 pub mod families;
 mod forms;
 pub mod guarded;
+mod indexed;
 pub mod lending;
 pub mod lengths;
 pub mod outcome;

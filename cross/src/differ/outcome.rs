@@ -2,7 +2,7 @@
 
 use super::{case::Case, lending::Lending};
 use crate::{
-    book::{BookText, Made, Read, State, Verdict},
+    book::{BookText, Indexed, Made, Read, State, Verdict},
     calls::PAGE_SIZE,
     solver::Solver,
 };
@@ -97,6 +97,7 @@ pub fn expected(solver: &Solver, case: &Case, before: &Lending) -> Outcome {
             after_making(&made, &mut after)
         }
         Case::Write { book, values, levels, room } => after_writing(&solver.write(book, values, levels, *room), &mut after),
+        Case::Index { book, starts, entries } => after_indexing(&solver.index(book, *starts, *entries), &mut after),
     };
     Outcome { answer, after }
 }
@@ -137,4 +138,12 @@ fn after_making(made: &Made, after: &mut Lending) -> Answer {
 fn after_writing(written: &BookText, after: &mut Lending) -> Answer {
     after.text.write(&written.bytes);
     Answer::Written((written.length as u64) << 32 | u64::from(written.verdict.packed()))
+}
+
+fn after_indexing(indexed: &Indexed, after: &mut Lending) -> Answer {
+    if let Some(index) = &indexed.written {
+        after.starts.write(&index.starts);
+        after.entries.write(&index.entries);
+    }
+    Answer::Verdict(indexed.verdict.packed())
 }

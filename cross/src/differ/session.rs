@@ -3,13 +3,13 @@
 use super::{
     case::Case,
     lending::Lending,
-    outcome::{expected, Outcome},
+    outcome::{expected, Answer, Outcome},
     shrink::smallest,
     side::Side,
 };
 use crate::random::Random;
 use crate::{
-    book::{Lengths, Read, State, Verdict},
+    book::{Book, Lengths, Read, State, Verdict},
     calls::PAGE_SIZE,
     solver::Solver,
 };
@@ -35,27 +35,51 @@ pub struct Session<'a> {
     pub numbers: BTreeMap<u32, usize>,
     /// How long the smallest case is looked for that shows a difference.
     pub patience: Duration,
+    /// The tables that were indexed last.
+    indexed: Option<Book>,
 }
 
 impl<'a> Session<'a> {
     pub fn new(solver: Solver, sides: &[Side<'a>], random: Random, count: usize) -> Session<'a> {
         let patience = Duration::from_secs(20);
-        Session { solver, sides: sides.to_vec(), random, count, cases: 0, numbers: BTreeMap::new(), patience }
+        let (sides, numbers) = (sides.to_vec(), BTreeMap::new());
+        Session { solver, sides, random, count, cases: 0, numbers, patience, indexed: None }
     }
 
     /// Holds every side that has the call against the solver.
     pub fn compare(&mut self, case: Case) -> Compared {
+        self.solve(&case).map(|_| ())
+    }
+
+    /// What the solver answers, if every side answers and does the same. Tables that are lent to a call are indexed too, unless those
+    /// before were the same. `random` has no part in that, so that the families have the cases that they had before there was an index.
+    fn solve(&mut self, case: &Case) -> Result<Answer, Box<Found>> {
         let noise = self.random.draw();
-        let before = Lending::of(&case, noise);
-        let expected = expected(&self.solver, &case, &before);
+        let answer = self.hold(case, noise)?;
+        match case {
+            Case::Check { book, .. } | Case::Evaluate { book, .. } | Case::Write { book, .. }
+                if self.indexed.as_ref() != Some(book) =>
+            {
+                self.index(book, noise)?;
+                self.indexed = Some(book.clone());
+            }
+            _ => {}
+        }
+        Ok(answer)
+    }
+
+    /// What the solver answers in this one case, with slices to be written that hold what `noise` gives.
+    pub(super) fn hold(&mut self, case: &Case, noise: u64) -> Result<Answer, Box<Found>> {
+        let before = Lending::of(case, noise);
+        let expected = expected(&self.solver, case, &before);
         self.cases += 1;
         if let Some(verdict) = expected.answer.verdict() {
             *self.numbers.entry(verdict.number).or_default() += 1;
         }
-        if self.difference(&case, &before, &expected).is_none() {
-            return Ok(());
+        if self.difference(case, &before, &expected).is_none() {
+            return Ok(expected.answer);
         }
-        let case = smallest(case, self.patience, |smaller| self.difference_on(smaller, noise).is_some());
+        let case = smallest(case.clone(), self.patience, |smaller| self.difference_on(smaller, noise).is_some());
         let what = self.difference_on(&case, noise).expect("the smallest case differs too");
         Err(Box::new(Found { what, case }))
     }
@@ -118,8 +142,7 @@ impl<'a> Session<'a> {
 
     /// Compares a case whose verdict is known.
     pub fn stated(&mut self, says: &str, case: Case, verdict: Verdict) -> Compared {
-        self.compare(case.clone())?;
-        let answer = expected(&self.solver, &case, &Lending::of(&case, 0)).answer;
+        let answer = self.solve(&case)?;
         self.demand(answer.verdict() == Some(verdict), &case, || format!("{says}: stated {verdict:?}, solved {answer}"))
     }
 }

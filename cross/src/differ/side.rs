@@ -59,6 +59,10 @@ fn answer_of_call(calls: &dyn Calls, case: &Case, lent: &mut Lending) -> Option<
             let tables = lent.tables.to_read(book.n);
             Some(Answer::Written(calls.write(tables, lent.values.lent(), lent.levels.lent(), lent.text.lent_mut())))
         }
+        Case::Index { book, .. } => {
+            let tables = lent.tables.to_read(book.n);
+            Some(Answer::Verdict(calls.index(tables, lent.starts.lent_mut(), lent.entries.lent_mut())))
+        }
         Case::Program { .. } => None,
     }
 }

@@ -61,6 +61,17 @@ impl Calls for OneEntryMore {
         text.iter_mut().skip((answer >> 32) as usize).take(1).for_each(|byte| *byte = byte.wrapping_add(1));
         answer
     }
+
+    fn index(&self, tables: Tables, starts: &mut [u16], entries: &mut [u16]) -> u32 {
+        let answer = Fast.index(tables, starts, entries);
+        entries.iter_mut().take(1).for_each(|entry| *entry = entry.wrapping_add(1));
+        answer
+    }
+}
+
+/// One atom, from its own negation.
+fn one_rule() -> Book {
+    Book { rules: vec![0, 0, 1], literals: vec![1], ..Book::of_atoms(1) }
 }
 
 fn session(side: &dyn Calls) -> Session<'_> {
@@ -78,11 +89,32 @@ fn an_entry_too_many_is_noticed() {
     let made = session(&OneEntryMore).compare(Case::evaluate(&book, &[0])).expect_err("work was written");
     assert!(made.what.contains("work[0] of 1 is 1 instead of 0"), "{}", made.what);
     let case = |room| Case::write(&book, &[0], &[0], room);
-    assert!(session(&OneEntryMore).compare(case(24)).is_ok(), "no byte after the text was lent");
+    assert!(session(&OneEntryMore).hold(&case(24), 1).is_ok(), "no byte after the text was lent");
     for room in [23, 25] {
         let written = session(&OneEntryMore).compare(case(room)).expect_err("a byte that is not of the text was written");
         assert!(written.what.contains("but afterwards text["), "{}", written.what);
     }
+    assert!(session(&OneEntryMore).compare(Case::index(&one_rule(), 3, 0)).is_ok(), "no entry was lent");
+    for entries in [1, 2] {
+        let case = Case::index(&one_rule(), 3, entries);
+        let built = session(&OneEntryMore).compare(case).expect_err("an entry was changed, of an index and of a refusal");
+        assert!(built.what.contains("but afterwards entries[0]"), "{}", built.what);
+    }
+}
+
+/// Once for tables that several calls have one after the other, in six ways if there is an entry.
+#[test]
+fn lent_tables_are_indexed_too() {
+    let (book, other) = (one_rule(), Book::of_atoms(1));
+    let mut calls = session(&Fast);
+    for (book, cases) in [(&book, 7), (&book, 8), (&other, 14), (&book, 21), (&book, 22)] {
+        assert!(calls.compare(Case::check(book, &[0], &[0])).is_ok());
+        assert_eq!(calls.cases, cases);
+    }
+    let check = Case::check(&book, &[0], &[0]);
+    assert!(session(&OneEntryMore).hold(&check, 1).is_ok());
+    let found = session(&OneEntryMore).compare(check).expect_err("an entry was changed");
+    assert!(found.what.starts_with("index by one entry more"), "{}", found.what);
 }
 
 /// What the solver expects, with one slice changed.
@@ -101,6 +133,16 @@ fn a_changed_slice_that_is_only_read_is_noticed() {
     assert!(noticed(&check, |after| after.tables.literals.lent_mut()[1] = 7).is_some_and(|what| what.contains("literals[1]")));
     assert!(noticed(&check, |after| after.tables.marks.lent_mut()[1] = 7).is_some_and(|what| what.contains("marks[1]")));
     assert!(noticed(&check, |after| after.values.lent_mut()[0] = 7).is_some_and(|what| what.contains("values[0]")));
+}
+
+#[test]
+fn another_index_is_noticed() {
+    let index = Case::index(&one_rule(), 3, 1);
+    assert_eq!(noticed(&index, |_| {}), None);
+    assert!(noticed(&index, |after| after.starts.lent_mut()[2] = 0)
+        .is_some_and(|what| what.contains("starts[2] of 3 is 0 instead of 1")));
+    assert!(noticed(&index, |after| after.entries.lent_mut()[0] = 1).is_some_and(|what| what.contains("entries[0] of 1 is 1")));
+    assert!(noticed(&index, |after| after.tables.rules.lent_mut()[1] = 1).is_some_and(|what| what.contains("rules[1]")));
 }
 
 #[test]
@@ -127,6 +169,26 @@ fn the_smallest_tables_have_what_differs_and_no_more() {
     };
     assert_eq!(book, Book { rules: vec![1, 0, 1], literals: vec![3], marks: vec![0, 1], ..Book::of_atoms(2) });
     assert_eq!(values.len(), 2);
+}
+
+/// The slices stay as much too short as they were.
+#[test]
+fn the_smallest_index_has_what_differs_and_no_more() {
+    let literals = (0..40).map(|place| place % 8).collect();
+    let rules = (0..10).flat_map(|row| [row % 4, 4 * row, 4]).collect();
+    let book = Book { rules, literals, ..Book::of_atoms(4) };
+    let needed = |case: &Case| match case {
+        Case::Index { book, starts, entries } => {
+            let total: usize = book.rules.chunks_exact(3).map(|row| usize::from(row[2])).sum();
+            book.literals.contains(&3) && (*starts, entries + 1) == (2 * book.n + 1, total)
+        }
+        _ => false,
+    };
+    let Case::Index { book, starts, entries } = smallest(Case::index(&book, 9, 39), PATIENCE, needed) else {
+        panic!("another call")
+    };
+    assert_eq!(book, Book { rules: vec![0, 0, 1], literals: vec![3], ..Book::of_atoms(2) });
+    assert_eq!((starts, entries), (5, 0));
 }
 
 #[test]

@@ -1,12 +1,14 @@
-//! The six calls in plain Rust, written for speed: what the benchmarks measure the proved library against.
+//! The seven calls in plain Rust, written for speed: what the benchmarks measure the proved library against.
 //!
 //! Nothing is allocated and nothing is unsafe. The check is linear, and the maker goes by rounds over all rules, as the library does,
 //! so that a ratio of times compares code with code. The reader reads a text once, into tables of its own, and copies the used parts
-//! out if the text is accepted. The writer counts the bytes of a text before it puts the first of them.
+//! out if the text is accepted. The writer counts the bytes of a text before it puts the first of them. The index is a counting sort
+//! within the two slices that it is built in.
 
 mod check;
 mod evaluate;
 mod faults;
+mod indexing;
 mod lines;
 mod page;
 mod printer;
@@ -78,11 +80,16 @@ impl Calls for Fast {
             }
         }
     }
+
     fn write(&self, tables: Tables, values: &[u8], levels: &[u16], text: &mut [u8]) -> u64 {
         match writer::write(tables, values, levels, text) {
             Ok(length) => (length as u64) << 32,
             Err(refused) => refused.packed().into(),
         }
+    }
+
+    fn index(&self, tables: Tables, starts: &mut [u16], entries: &mut [u16]) -> u32 {
+        indexing::index(tables, starts, entries).packed()
     }
 }
 

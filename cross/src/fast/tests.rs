@@ -252,9 +252,12 @@ fn tables_are_judged_alike() {
         let room = random.below(300);
         let written = [&Fast as &dyn Calls, &Library].map(|calls| written(calls, &book, &values, &levels, room));
         assert_eq!(written[0], written[1], "{book:?} {values:?} {levels:?}, {room} bytes");
-        met.extend([number(answer as u32), number(checked), number(written[0].0 as u32)]);
+        let lent = index_lengths(&book, &mut random);
+        let indexed = [&Fast as &dyn Calls, &Library].map(|calls| indexed(calls, &book, lent));
+        assert_eq!(indexed[0], indexed[1], "{book:?}, {lent:?}");
+        met.extend([number(answer as u32), number(checked), number(written[0].0 as u32), number(indexed[0].0)]);
     }
-    let all = [0].into_iter().chain(11..=17).chain(21..=27).chain([31, 32]);
+    let all = [0].into_iter().chain(11..=17).chain(21..=27).chain(31..=33);
     assert_eq!(met, all.collect(), "not every number was met");
 }
 
@@ -263,6 +266,20 @@ fn written(calls: &dyn Calls, book: &Book, values: &[u8], levels: &[u16], room: 
     let mut text = vec![7; room];
     let answer = calls.write(book.tables(), values, levels, &mut text);
     (answer, text)
+}
+
+/// How many starts and entries are lent: mostly those of the index, now and then one more or less of either.
+fn index_lengths(book: &Book, random: &mut Random) -> (usize, usize) {
+    let entries: usize = book.rules.chunks_exact(3).map(|row| usize::from(row[2])).sum();
+    let mut near = |length: usize| (length + random.pick(&[1, 1, 1, 1, 1, 0, 2])).saturating_sub(1);
+    (near(2 * book.n + 1), near(entries))
+}
+
+/// What the index is answered, and all that slices of these lengths then hold.
+fn indexed(calls: &dyn Calls, book: &Book, lent: (usize, usize)) -> (u32, Vec<u16>, Vec<u16>) {
+    let (mut starts, mut entries) = (vec![7; lent.0], vec![9; lent.1]);
+    let answer = calls.index(book.tables(), &mut starts, &mut entries);
+    (answer, starts, entries)
 }
 
 /// 67 million literals: rows are judged by their counts. To walk them takes far longer than is granted here.
@@ -274,6 +291,7 @@ fn rows_that_share_all_literals_are_judged_at_once() {
         let time = || {
             let begun = Instant::now();
             assert_eq!(written(calls, &book, &[0], &[0], TEXT_MAX).0, 32 << 16);
+            assert_eq!(indexed(calls, &book, (3, 16_384)).0, 33 << 16);
             begun.elapsed()
         };
         let least = (0..20).map(|_| time()).min();
@@ -317,5 +335,21 @@ fn sizes_are_judged_alike() {
             let written = [&Fast as &dyn Calls, &Library].map(|calls| written(calls, &book, &values, &levels, TEXT_MAX));
             assert_eq!(written[0], written[1]);
         }
+        let indexed = [&Fast as &dyn Calls, &Library].map(|calls| indexed(calls, &book, (2_049, 0)));
+        assert_eq!(indexed[0], indexed[1]);
+    }
+}
+
+/// The limit of 33, and 1,024 atoms.
+#[test]
+fn full_indexes_are_built_alike() {
+    let mut random = Random::new(4);
+    for (rows, count) in [(2_048, 8), (2_047, 8), (1_820, 9), (1_821, 9), (1, 16_384), (2, 8_192), (2, 8_193)] {
+        let literals = (0..16_384).map(|_| random.below(2_048) as u16).collect();
+        let rules = (0..rows).flat_map(|row| [row % 1_024, random.below(16_385 - count) as u16, count as u16]).collect();
+        let book = Book { rules, literals, ..Book::of_atoms(1_024) };
+        let indexed = [&Fast as &dyn Calls, &Library].map(|calls| indexed(calls, &book, (2_049, usize::from(rows) * count)));
+        assert_eq!(indexed[0], indexed[1]);
+        assert_eq!(number(indexed[0].0), if usize::from(rows) * count > 16_384 { 33 } else { 0 });
     }
 }

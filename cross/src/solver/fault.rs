@@ -32,10 +32,19 @@ pub enum Fault {
     WrittenValuesJudged,
     MinusLost,
     DeclaredHeadsLeftOut,
+    RowsFalling,
+    RepeatedLiteralIndexedOnce,
+    ClausesIndexed,
+    IndexSizeBeforeMarks,
+    SharedBodiesCountedOnce,
+    FullIndexRefused,
+    LongerIndexSlicesTaken,
+    IndexLengthsAs17,
+    StartsClearedByARefusal,
 }
 
 impl Fault {
-    pub const ALL: [Fault; 29] = [
+    pub const ALL: [Fault; 38] = [
         Fault::OrderBeforeLimits,
         Fault::FullTableRefused,
         Fault::EmptyRowPastTheEnd,
@@ -65,6 +74,15 @@ impl Fault {
         Fault::WrittenValuesJudged,
         Fault::MinusLost,
         Fault::DeclaredHeadsLeftOut,
+        Fault::RowsFalling,
+        Fault::RepeatedLiteralIndexedOnce,
+        Fault::ClausesIndexed,
+        Fault::IndexSizeBeforeMarks,
+        Fault::SharedBodiesCountedOnce,
+        Fault::FullIndexRefused,
+        Fault::LongerIndexSlicesTaken,
+        Fault::IndexLengthsAs17,
+        Fault::StartsClearedByARefusal,
     ];
 
     pub fn describe(self) -> &'static str {
@@ -100,6 +118,15 @@ impl Fault {
             Fault::WrittenValuesJudged => "A value that is neither 0 nor 1 is refused with 21, not written.",
             Fault::MinusLost => "Bounds and minutes are written without their minus.",
             Fault::DeclaredHeadsLeftOut => "A declared atom that heads a rule is left out of the (defined ..) line.",
+            Fault::RowsFalling => "The rows of a literal stand in falling order.",
+            Fault::RepeatedLiteralIndexedOnce => "A literal that a body repeats has one entry for it.",
+            Fault::ClausesIndexed => "The literals of clauses are counted with those of bodies.",
+            Fault::IndexSizeBeforeMarks => "33 is looked for before 31, not after it.",
+            Fault::SharedBodiesCountedOnce => "Literals that several bodies share count once towards 33.",
+            Fault::FullIndexRefused => "Bodies of 16,384 literals are refused with 33.",
+            Fault::LongerIndexSlicesTaken => "An index is built at the front of slices that are longer.",
+            Fault::IndexLengthsAs17 => "Slices that have not the lengths of the index are 17.",
+            Fault::StartsClearedByARefusal => "The starts are cleared before 31 and 33 are looked for.",
         }
     }
 }

@@ -9,6 +9,7 @@ mod claim;
 mod decoded;
 mod fault;
 mod grammar;
+mod indexing;
 mod limits;
 mod maker;
 mod page;
@@ -29,7 +30,7 @@ use crate::book::Book;
 use decoded::Decoded;
 
 /// The solver. Its calls stand with the rules they follow: `read` in `reading`, `check` in `claim`, `evaluate` in `maker`,
-/// `verdict` and `report` in `page`, and `write` in `writing`.
+/// `verdict` and `report` in `page`, `write` in `writing`, and `index` in `indexing`.
 #[derive(Clone, Copy, Default)]
 pub struct Solver {
     pub fault: Option<Fault>,

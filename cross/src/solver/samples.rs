@@ -1,7 +1,7 @@
 //! The paper's sample calls, the samples to be run, and what else its sentences say of texts and tables.
 
 use super::{Fault, Solver};
-use crate::book::{Book, Lengths, Made, Read, State, Verdict};
+use crate::book::{Book, Indexed, Lengths, Made, Read, State, Verdict};
 
 const SOLVER: Solver = Solver { fault: None };
 
@@ -283,6 +283,7 @@ fn refused_after(changes: &[Change]) {
         let refused = Verdict { number, position };
         assert_eq!(SOLVER.check(&book, &[0, 0, 0, 1], &[0, 1, 1, 2]), refused, "{book:?}");
         assert_eq!(SOLVER.evaluate(&book, &[0; 4], 4, 4, 4), Made { verdict: refused, rounds: 0, written: None }, "{book:?}");
+        assert_eq!(SOLVER.index(&book, 9, 4), Indexed::refused(refused), "{book:?}");
     }
 }
 
@@ -444,6 +445,17 @@ fn spoilt_by(fault: Fault, solver: &Solver) -> String {
             let (clauses, literals) = (vec![0, 16_384], vec![1; 16_384]);
             return written(solver, Book { clauses, literals, ..Book::default() }, 0, 200_000);
         }
+        Fault::RowsFalling => return indexed(solver, Book { rules: vec![0, 0, 1, 0, 0, 1], ..Book::default() }, 3, 2),
+        Fault::RepeatedLiteralIndexedOnce => return indexed(solver, Book { rules: vec![0, 0, 2], ..Book::default() }, 3, 2),
+        Fault::ClausesIndexed => return indexed(solver, Book { clauses: vec![0, 1], ..Book::default() }, 3, 0),
+        Fault::LongerIndexSlicesTaken | Fault::IndexLengthsAs17 => return indexed(solver, Book::default(), 4, 0),
+        Fault::IndexSizeBeforeMarks | Fault::StartsClearedByARefusal => {
+            return indexed(solver, Book { marks: vec![2], ..Book::default() }, 2, 0)
+        }
+        Fault::FullIndexRefused => return indexed(solver, Book { rules: [0, 0, 8_192].repeat(2), ..Book::default() }, 3, 16_384),
+        Fault::SharedBodiesCountedOnce => {
+            return indexed(solver, Book { rules: vec![0, 0, 8_192, 0, 0, 8_192, 0, 0, 1], ..Book::default() }, 3, 16_385)
+        }
     };
     solver.report(text.as_bytes()).escape_ascii().to_string()
 }
@@ -457,6 +469,12 @@ fn checked(solver: &Solver, book: Book, values: [u8; 1]) -> String {
 fn written(solver: &Solver, book: Book, value: u8, room: usize) -> String {
     let marks = if book.marks.is_empty() { vec![0] } else { book.marks };
     format!("{:?}", solver.write(&Book { n: 1, marks, ..book }, &[value], &[1], room))
+}
+
+/// The index of a book of one atom, which is not declared if there are no marks, with a literal table of zeros.
+fn indexed(solver: &Solver, book: Book, starts: usize, entries: usize) -> String {
+    let marks = if book.marks.is_empty() { vec![0] } else { book.marks };
+    format!("{:?}", solver.index(&Book { n: 1, literals: vec![0; 8_192], marks, ..book }, starts, entries))
 }
 
 /// Each deliberate fault shows in a call that is right without it.

@@ -33,7 +33,7 @@ impl Solver {
         (!too_long && !too_short).then(|| text.into_bytes())
     }
 
-    fn literals_by_row(&self, book: &Book) -> usize {
+    pub(super) fn literals_by_row(&self, book: &Book) -> usize {
         let bodies = book.rules.chunks(3).map(|row| (row[1], row[2]));
         let parts = bodies.chain(book.clauses.chunks(2).map(|row| (row[0], row[1])));
         if self.has(Fault::SharedLiteralsCountedOnce) {

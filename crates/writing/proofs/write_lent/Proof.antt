@@ -11,10 +11,11 @@ use borrow.Author.Tests.{not-true, not-false}
 use Rattle.tables.specs.Faults.{firstFault}
 use Rattle.tables.specs.Sound.{Tables, lent, markTest}
 use Rattle.tables.proofs.SoundTables.{sound-sizes}
+use Rattle.tables.proofs.RefusalLaws.{early-refuses, early-leaves}
 use Rattle.writing.specs.BookForms.{textOf}
 use Rattle.writing.specs.Writing.{rowsFit, bytesFit, textTest}
 use Rattle.writing.proofs.Ready.{puttable, short}
-use Rattle.writing.proofs.WriteLaws.{refused-writes, accepted-writes, early-refuses, early-leaves, bytes-refuse, text-accepts, bytes-within}
+use Rattle.writing.proofs.WriteLaws.{refused-writes, accepted-writes, rows-refuse, bytes-refuse, text-accepts, bytes-within}
 use Rattle.writing.proofs.write_lent.Statement.{statement}
 use Rattle.writing.proofs.write_lent.Tie as tie
 
@@ -33,7 +34,8 @@ early-passed :
 unfolding lent
 early-passed c =
     let s = c .before .before .before .before .before .before .before .before .before .before .before .before .before in
-    early-leaves (given s) _ _ _ (s .pre .marked) _ _ (c .before .before .before .before .not-held-atom .ensures) (c .before .before .before .rows-fit .ensures) (sym (c .before .before .first-refusal .ensures) ∙ c .enum-told .given .1)
+    let left = early-leaves (given s) (textTest (given s) (s .args .values .now) (s .args .levels .now) (length (s .args .text .now))) (s .pre .marked) _ _ _ (c .before .before .before .before .not-held-atom .ensures) (sym (c .before .before .first-refusal .ensures) ∙ c .enum-told .given .1) in
+    (left .0, sym (c .before .before .before .rows-fit .ensures) ∙ left .1)
 
 bytes-fitted :
     (c : tie.Else1) →
@@ -65,7 +67,7 @@ returns : tie.Need-returns
 unfolding lent
 returns c =
     let s = c .before .before .before .before .before .before .before .before .before .before .before .before .before .before .before in
-    refused-writes _ _ (early-refuses (given s) _ _ _ (s .pre .marked) _ _ _ _ (c .before .before .before .before .before .before .not-held-atom .ensures) (c .before .before .before .before .before .rows-fit .ensures) (sym (c .before .before .before .before .first-refusal .ensures) ∙ c .before .before .early .given .1)) (c .refused .ensures)
+    refused-writes _ _ (early-refuses (given s) (textTest (given s) (s .args .values .now) (s .args .levels .now) (length (s .args .text .now))) (s .pre .marked) _ _ _ _ _ (c .before .before .before .before .before .before .not-held-atom .ensures) (λ unfit. rows-refuse (given s) _ _ _ (sym (c .before .before .before .before .before .rows-fit .ensures) ∙ unfit)) (sym (c .before .before .before .before .first-refusal .ensures) ∙ c .before .before .early .given .1)) (c .refused .ensures)
 
 enum-told : tie.Need-enum-told
 enum-told c = search needs

@@ -2,6 +2,7 @@
 
 mod books;
 mod claims;
+mod indexed;
 mod limits;
 mod minutes;
 mod pages;
@@ -65,6 +66,7 @@ pub fn all(refusals: Vec<Sample>, examples: Vec<Vec<u8>>, claims: Vec<Vec<u8>>) 
             readings::declared::compare_all(session)
         }),
         Family::new(17, "readings on books written back", readings::written::compare_all),
+        Family::new(24, "readings on the index", readings::indexed::compare_all),
         Family::new(18, "samples and examples written back", move |session| written::texts(session, &texts)),
         Family::new(22, "claims of textsamples written back", move |session| written::texts(session, &claims)),
         Family::new(23, "every number of minutes", minutes::compare_all),
@@ -84,6 +86,7 @@ pub fn all(refusals: Vec<Sample>, examples: Vec<Vec<u8>>, claims: Vec<Vec<u8>>) 
         Family::new(19, "tables written back", written::sound_tables),
         Family::new(20, "unsound tables written back", written::unsound_tables),
         Family::new(21, "texts written back", written::random_texts),
+        Family::new(25, "tables indexed", indexed::compare_all),
     ]
 }
 

@@ -91,7 +91,7 @@ fn read_and_write(session: &mut Session, text: &[u8]) -> Compared {
 
 /// Sound tables with any claim, so many times as large as a small one. Rows share literals and stand in any order, some are empty,
 /// and there are places that none uses.
-fn some_book(random: &mut Random, times: usize) -> (Book, Claim) {
+pub(super) fn some_book(random: &mut Random, times: usize) -> (Book, Claim) {
     let atoms: &[usize] = if times > 1 || random.one_in(20) { &[120, 1_024] } else { &[0, 1, 2, 5, 12] };
     let n = random.pick(atoms);
     let mut book = Book { literals: literals(random, n, 12 * times), ..Book::of_atoms(n) };

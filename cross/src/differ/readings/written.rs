@@ -158,7 +158,7 @@ fn refusals_in_order(session: &mut Session) -> Compared {
 }
 
 /// One atom and a literal table of zeros, with so many rules and clauses of so many literals each.
-fn rows(literals: usize, rules: &[(usize, u16)], clauses: &[(usize, u16)]) -> Book {
+pub(super) fn rows(literals: usize, rules: &[(usize, u16)], clauses: &[(usize, u16)]) -> Book {
     let mut book = Book { literals: vec![0; literals], ..Book::of_atoms(1) };
     for &(times, count) in rules {
         book.rules.extend([0, 0, count].repeat(times));

@@ -3,7 +3,7 @@
 mod tables;
 mod texts;
 
-use super::case::Case;
+use super::{case::Case, indexed};
 use crate::{
     book::{Book, Lengths},
     solver::Solver,
@@ -42,6 +42,7 @@ fn smaller(case: &Case) -> Smaller<'_, Case> {
         }
         Case::Check { book, values, levels } => Box::new(smaller_claims(book, values, levels, Case::check)),
         Case::Write { book, values, levels, room } => smaller_writing(book, values, levels, *room),
+        Case::Index { book, starts, entries } => smaller_indexing(book, *starts, *entries),
         Case::Evaluate { book, open_values, written } => {
             let tables =
                 tables::smaller(book).map(|book| Case::Evaluate { book, open_values: open_values.clone(), written: *written });
@@ -79,6 +80,19 @@ fn smaller_writing<'a>(book: &'a Book, values: &'a [u8], levels: &'a [u16], room
     };
     let exact = (room > whole).then(|| Case::write(book, values, levels, whole));
     Box::new(smaller_claims(book, values, levels, case).chain(exact))
+}
+
+/// Slices change as the lengths of the index do, so that they stay as much too short or too long; and have just these lengths.
+fn smaller_indexing(book: &Book, starts: usize, entries: usize) -> Smaller<'_, Case> {
+    let whole = indexed::lengths(book);
+    let case = move |book: Book| {
+        let exact = indexed::lengths(&book);
+        let follow = |length: usize, before: usize, now: usize| (length + now).saturating_sub(before);
+        Case::index(&book, follow(starts, whole.0, exact.0), follow(entries, whole.1, exact.1))
+    };
+    let exact = ((starts, entries) != whole).then(|| Case::index(book, whole.0, whole.1));
+    let atoms = tables::without_an_atom(book).map(move |(_, book)| case(book));
+    Box::new(atoms.chain(tables::smaller(book).map(case)).chain(exact))
 }
 
 /// Tables of full size say less than others, so each length that is not needed becomes that.

@@ -4,7 +4,7 @@ use Prim.Native.Nat.{_-_}
 use native.Mathlib.Omega.{arith}
 use borrow.Author.Needs.{needs}
 use Rattle.tables.specs.Loads.{loadCount, loadSize}
-use Rattle.writing.proofs.TotalLaws.{Summing, summing-start, summing-turn, summing-end}
+use Rattle.tables.proofs.TotalLaws.{Summing, summing-start, summing-turn, summing-end}
 use Rattle.writing.proofs.totals.terms_total.Statement.{statement}
 use Rattle.writing.proofs.totals.terms_total.Tie as tie
 

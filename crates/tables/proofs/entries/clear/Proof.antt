@@ -1,4 +1,4 @@
--- `rounds::setting::clear` meets its contract: the entries passed are 0.
+-- `tables::entries::clear` meets its contract: the entries passed are 0.
 -- Assumes nothing.
 use Prim.Native.Nat.{_-_}
 use mathlib.Core.Path.{refl, _∙_}
@@ -6,8 +6,8 @@ use native.Mathlib.Omega.{arith}
 use lib.ListN.{length}
 use Rattle.wellfounded.proofs.InPlace.{Written, written-start, written-turn, written-end}
 use Rattle.wellfounded.proofs.Lists.{tabulate-replicate}
-use Rattle.rounds.proofs.setting.clear.Statement.{statement}
-use Rattle.rounds.proofs.setting.clear.Tie as tie
+use Rattle.tables.proofs.entries.clear.Statement.{statement}
+use Rattle.tables.proofs.entries.clear.Tie as tie
 
 abbrev Inv-loop : tie.InvT-loop
 Inv-loop entries₀ i₀ entries i = Written (λ k. 0) entries₀ i entries

@@ -3,14 +3,9 @@
 use Prim.Native.Nat.{ℕ, _+_, _*_, _≤_, _<_}
 use mathlib.Core.Path.{_≡_, refl, ap, _∙_}
 use native.Mathlib.Omega.{arith}
-use native.Mathlib.Numerals.{add-one}
+use Rattle.wellfounded.specs.Lists.{sumBelow}
+use Rattle.wellfounded.proofs.Sums.{sum-more}
 use Rattle.tables.specs.internal.Fields.{Field}
-use Rattle.writing.specs.Writing.{sumBelow}
-
--- One more summand.
-pub sum-more : (n : ℕ) (f : ℕ → ℕ) → sumBelow (n + 1) f ≡ sumBelow n f + f n
-unfolding sumBelow
-sum-more n f = rw add-one
 
 -- The fields of the rows passed are in the total. Each is below the bound, so the total cannot wrap.
 pub record Summing (f : ℕ → ℕ) (bound rows row total : ℕ) : Type 0 where

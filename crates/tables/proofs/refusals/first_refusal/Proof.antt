@@ -1,9 +1,9 @@
--- `writing::first_refusal` meets its contract: a mark is looked at first, and the rows only if no mark is refused.
+-- `tables::refusals::first_refusal` meets its contract: a mark is looked at first, and what does not fit only if no mark is refused.
 -- Assumes nothing.
 use borrow.Author.Needs.{needs}
-use Rattle.writing.proofs.WriteLaws.{mark-refuses, unfit-refuses, neither-refuses}
-use Rattle.writing.proofs.first_refusal.Statement.{statement}
-use Rattle.writing.proofs.first_refusal.Tie as tie
+use Rattle.tables.proofs.RefusalLaws.{mark-refuses, unfit-refuses, neither-refuses}
+use Rattle.tables.proofs.refusals.first_refusal.Statement.{statement}
+use Rattle.tables.proofs.refusals.first_refusal.Tie as tie
 
 -- Each answer is found among all three, so that none relies on the order in which the tests stand.
 ruleset refusals = (mark-refuses, unfit-refuses, neither-refuses)

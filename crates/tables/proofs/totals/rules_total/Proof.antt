@@ -1,12 +1,12 @@
--- `writing::totals::rules_total` meets its contract: the sizes of the rows passed are in the total.
+-- `tables::totals::rules_total` meets its contract: the sizes of the rows passed are in the total.
 -- Assumes nothing.
 use Prim.Native.Nat.{_-_}
 use native.Mathlib.Omega.{arith}
 use borrow.Author.Needs.{needs}
-use Rattle.tables.specs.Rows.{ruleCount, ruleSize}
-use Rattle.writing.proofs.TotalLaws.{Summing, summing-start, summing-turn, summing-end}
-use Rattle.writing.proofs.totals.rules_total.Statement.{statement}
-use Rattle.writing.proofs.totals.rules_total.Tie as tie
+use Rattle.tables.specs.Rows.{ruleCount, ruleSize, literalsByRule}
+use Rattle.tables.proofs.TotalLaws.{Summing, summing-start, summing-turn, summing-end}
+use Rattle.tables.proofs.totals.rules_total.Statement.{statement}
+use Rattle.tables.proofs.totals.rules_total.Tie as tie
 
 abbrev Inv-loop : tie.InvT-loop
 Inv-loop rules rows total₀ row₀ total row = Summing (ruleSize rules) 65536 rows row total
@@ -37,7 +37,7 @@ loop-again : tie.Need-loop-again Inv-loop μ-loop
 loop-again c = summing-turn _ _ _ _ _ _ (omega arith) (c .rule-size .ensures) (c .before .before .loop .inv)
 
 returns : tie.Need-returns Inv-loop μ-loop
-unfolding ruleCount
+unfolding ruleCount literalsByRule
 returns c =
     let sum = summing-end _ _ _ _ _ (omega arith) (c .before .loop .inv) in
     (rw (c .before .before .rule-count .ensures) at (sum .0), omega arith)

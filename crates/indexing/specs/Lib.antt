@@ -1,0 +1,3 @@
+-- Where a literal occurs. What the functions that build the index rely on is inside.
+pub mod Index
+pub mod internal
