@@ -14,8 +14,8 @@
  * reported: for 1 to 4 the first bad line, with its lowest number, and otherwise the first in the order of the numbers below, where 31
  * to 33 stand between 17 and 21, at its lowest position.
  *
- * Machines and stack. The library is built for x86-64 Linux. All work is done on the caller's stack: a thread needs about 96 KB
- * for battenplum_verdict and battenplum_report, and about 8 KB for the other calls.
+ * Machines and stack. The library is built for x86-64 Linux. All work is done on the caller's stack: a thread needs about 144 KB
+ * for battenplum_verdict and battenplum_report, about 16 KB for battenplum_evaluate_indexed, and about 8 KB for the other calls.
  */
 #ifndef BATTENPLUM_H
 #define BATTENPLUM_H
@@ -25,8 +25,8 @@
 
 /* The version of this header. Before 1.0 each minor version may change the calls. */
 #define BATTENPLUM_VERSION_MAJOR 0
-#define BATTENPLUM_VERSION_MINOR 5
-#define BATTENPLUM_VERSION "0.5"
+#define BATTENPLUM_VERSION_MINOR 6
+#define BATTENPLUM_VERSION "0.6"
 
 /* For functions defined in this header: inline where the language has it, and no warning if unused. */
 #if defined(__cplusplus) || (defined(__STDC_VERSION__) && __STDC_VERSION__ >= 199901L)
@@ -56,7 +56,11 @@ extern "C" {
 /* The number of starts in the index of n atoms: one for each literal and one more. An index has at most BATTENPLUM_LITERALS entries. */
 #define BATTENPLUM_STARTS(n) (2 * (n) + 1)
 
-/* The number and the position of a verdict. Both also work on what battenplum_evaluate and battenplum_write return. */
+/* The largest number of rules: so many counts are room for every book. */
+#define BATTENPLUM_RULE_ROWS 2048
+
+/* The number and the position of a verdict. Both also work on what battenplum_evaluate, battenplum_evaluate_indexed and battenplum_write
+ * return. */
 #define BATTENPLUM_NUMBER(verdict) ((uint32_t)(verdict) >> 16)
 #define BATTENPLUM_POSITION(verdict) ((uint32_t)(verdict) & 0xFFFFu)
 
@@ -80,7 +84,7 @@ enum {
     BATTENPLUM_BAD_LENGTH = 17,     /* 0 */
     BATTENPLUM_BAD_MARK = 31,       /* the atom, or 0 if `marks` is not n long */
     BATTENPLUM_TEXT_SIZE = 32,      /* battenplum_write alone: 0 */
-    BATTENPLUM_INDEX_SIZE = 33,     /* battenplum_index alone: 0 */
+    BATTENPLUM_INDEX_SIZE = 33,     /* battenplum_index and battenplum_evaluate_indexed: 0 */
 
     /* The claim, or the open values. */
     BATTENPLUM_BAD_VALUE = 21,   /* the atom */
@@ -108,7 +112,7 @@ BATTENPLUM_INLINE const char *battenplum_message(uint32_t number) {
     case BATTENPLUM_BAD_LOAD_ROW: return "a load line lies outside the table, or its bounds are out of range";
     case BATTENPLUM_BAD_LITERAL: return "a rule or clause names an atom that the book does not have";
     case BATTENPLUM_BAD_TERM: return "a load line names an atom that the book does not have, or its minutes are out of range";
-    case BATTENPLUM_BAD_LENGTH: return "an array other than marks does not have one entry for each atom";
+    case BATTENPLUM_BAD_LENGTH: return "an array that must have one entry for each atom has not, or counts not one for each rule";
     case BATTENPLUM_BAD_MARK: return "a mark is not 0 or 1, or there is not one mark for each atom";
     case BATTENPLUM_TEXT_SIZE: return "the text does not fit into the buffer, or is larger than the text of a book may be";
     case BATTENPLUM_INDEX_SIZE: return "an array for the index does not have its exact length, or the rules have too many literals";
@@ -151,7 +155,7 @@ uint32_t battenplum_check(size_t n,
  * defined one (else 21).
  * For the numbers 0, 25, 26 and 27 it writes the model to `values` (2 for an undecided atom), each atom's stage to `levels` (0 for open
  * and undecided atoms) and 0 to all of `work`. For every other number it writes nothing, and the rounds are 0. What `values`, `levels` and
- * `work` held before makes no difference. */
+ * `work` held before makes no difference. For large books and long chains of rules there is battenplum_evaluate_indexed. */
 uint64_t battenplum_evaluate(size_t n,
                              const uint16_t *rules, size_t rules_len,
                              const uint16_t *literals, size_t literals_len,
@@ -165,7 +169,7 @@ uint64_t battenplum_evaluate(size_t n,
                              uint16_t *levels, size_t levels_len,
                              uint16_t *work, size_t work_len);
 
-/* The rounds in what battenplum_evaluate returns. */
+/* The rounds in what battenplum_evaluate and battenplum_evaluate_indexed return. */
 BATTENPLUM_INLINE uint32_t battenplum_rounds(uint64_t evaluated) { return (uint32_t)(evaluated >> 32); }
 
 /* Writes the text of a book with its claim at the front of `text` and returns its length * 2^32 + the verdict. So an accepted call does not
@@ -223,6 +227,35 @@ BATTENPLUM_INLINE size_t battenplum_entries(const uint16_t *rules, size_t rules_
     return total;
 }
 
+/* Works out the well-founded model as battenplum_evaluate does, and returns the same: rounds * 2^32 + the verdict. It builds the index of
+ * the book itself, and follows it from each literal that becomes true to the rules that have it in their body.
+ * Which of the two to call: this one for large books and long chains of rules, since battenplum_evaluate goes through all rules in every
+ * round. battenplum_evaluate needs no further arrays, and also takes a book whose rules share so many literals that it has no index (33
+ * here). A book that was read from a text and not changed never has so many.
+ * `marks`, `open_values`, `values`, `levels` and `work` are as in battenplum_evaluate. `starts` and `entries` must have the lengths that
+ * battenplum_index asks for (else 33). `counts` must have exactly one entry for each rule, which is rules_len / 3 (else 17).
+ * For the numbers 0, 25, 26 and 27 it writes `values`, `levels` and `work` as battenplum_evaluate does, and the index as battenplum_index
+ * does. counts[R] is then how many literals in the body of rule R are not true in the model: the false and the undecided ones, each as
+ * often as it stands there. So 0 means that the body is true. For every other number nothing is written to any array, and the rounds are
+ * 0. What the arrays that it writes held before makes no difference.
+ * Faults are looked for in the order 11 to 17, 31, 33, 21, 25 to 27. For every book that has an index, with `starts`, `entries` and
+ * `counts` of their lengths, the number, the position, the rounds, `values`, `levels` and `work` are those of battenplum_evaluate. */
+uint64_t battenplum_evaluate_indexed(size_t n,
+                                     const uint16_t *rules, size_t rules_len,
+                                     const uint16_t *literals, size_t literals_len,
+                                     const uint16_t *clauses, size_t clauses_len,
+                                     const int32_t *loads, size_t loads_len,
+                                     const uint16_t *load_literals, size_t load_literals_len,
+                                     const int16_t *minutes, size_t minutes_len,
+                                     const uint8_t *marks, size_t marks_len,
+                                     const uint8_t *open_values, size_t open_values_len,
+                                     uint8_t *values, size_t values_len,
+                                     uint16_t *levels, size_t levels_len,
+                                     uint16_t *work, size_t work_len,
+                                     uint16_t *starts, size_t starts_len,
+                                     uint16_t *entries, size_t entries_len,
+                                     uint16_t *counts, size_t counts_len);
+
 /* The places of `answer` of battenplum_read. All but the first and the last are entries, not rows. Of `marks` as many are in use as there
  * are atoms. */
 enum {
@@ -262,10 +295,10 @@ uint32_t battenplum_read(const uint8_t *text, size_t text_len,
                          uint16_t *levels, size_t levels_len,
                          uint32_t *answer, size_t answer_len);
 
-/* The same calls with the tables in one struct. The lengths are those in use; marks_len is n. The wrappers below pass tables->n as the
- * length of every array that is neither a table nor a text, so they cannot notice one that is shorter. A program that assigns the fields
- * one by one must set all of them, marks and marks_len too: a field that is left unset holds anything, and what the calls do is then
- * undefined. */
+/* The same calls with the tables in one struct. The lengths are those in use; marks_len is n. The wrappers below pass for every array that
+ * is neither a table nor a text the length that it should have, most often tables->n, so they cannot notice one that is shorter. A program
+ * that assigns the fields one by one must set all of them, marks and marks_len too: a field that is left unset holds anything, and what the
+ * calls do is then undefined. */
 typedef struct battenplum_tables {
     size_t n;
     const uint16_t *rules;
@@ -397,6 +430,32 @@ BATTENPLUM_INLINE uint32_t battenplum_index_tables(const battenplum_tables *tabl
                             starts, BATTENPLUM_STARTS(tables->n),
                             /* The bodies of more literals are refused, however long the array is said to be. */
                             entries, total <= BATTENPLUM_LITERALS ? total : 0);
+}
+
+/* battenplum_evaluate_indexed. `open_values`, `values`, `levels` and `work` have tables->n entries each, `starts` and `entries` are as for
+ * battenplum_index_tables, and `counts` has one entry for each rule. BATTENPLUM_RULE_ROWS is room for every book. From this call 33 means
+ * that the rules have more literals than an index may have; battenplum_evaluate_tables takes such a book. */
+BATTENPLUM_INLINE uint64_t battenplum_evaluate_indexed_tables(const battenplum_tables *tables, const uint8_t *open_values,
+                                                              uint8_t *values, uint16_t *levels, uint16_t *work,
+                                                              uint16_t *starts, uint16_t *entries, uint16_t *counts) {
+    const size_t total = battenplum_entries(tables->rules, tables->rules_len);
+
+    return battenplum_evaluate_indexed(tables->n,
+                                       tables->rules, tables->rules_len,
+                                       tables->literals, tables->literals_len,
+                                       tables->clauses, tables->clauses_len,
+                                       tables->loads, tables->loads_len,
+                                       tables->load_literals, tables->load_literals_len,
+                                       tables->minutes, tables->minutes_len,
+                                       tables->marks, tables->marks_len,
+                                       open_values, tables->n,
+                                       values, tables->n,
+                                       levels, tables->n,
+                                       work, tables->n,
+                                       starts, BATTENPLUM_STARTS(tables->n),
+                                       /* As in battenplum_index_tables. */
+                                       entries, total <= BATTENPLUM_LITERALS ? total : 0,
+                                       counts, tables->rules_len / 3);
 }
 
 #ifdef __cplusplus

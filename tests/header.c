@@ -2,7 +2,8 @@
  *
  * Every text is read into tables, by the struct and by the plain call. Open facts are evaluated and what comes out is checked; a claim
  * is checked. Both must come to the verdict on the text. Either claim is written back with the book, and what was written is read again.
- * The index of each book is held against a look at every place of every rule.
+ * The index of each book is held against a look at every place of every rule. The evaluation that follows the index is held against the
+ * other one, and its counts against a look at every literal of every rule.
  * Prints how many claims were made and accepted.
  */
 #include <stdio.h>
@@ -17,6 +18,10 @@ static uint16_t levels[BATTENPLUM_ATOMS], work[BATTENPLUM_ATOMS];
 static uint8_t written[BATTENPLUM_TEXT_MAX + 2];
 /* One more than any index has of either. */
 static uint16_t starts[BATTENPLUM_STARTS(BATTENPLUM_ATOMS) + 1], entries[BATTENPLUM_LITERALS + 1];
+/* What both evaluations leave: the plain one, and the one that follows the index, with one count more than any book has rules. */
+static uint8_t setting[BATTENPLUM_ATOMS], model[BATTENPLUM_ATOMS], followed_values[BATTENPLUM_ATOMS];
+static uint16_t model_levels[BATTENPLUM_ATOMS], model_work[BATTENPLUM_ATOMS];
+static uint16_t followed_levels[BATTENPLUM_ATOMS], followed_work[BATTENPLUM_ATOMS], counts[BATTENPLUM_RULE_ROWS + 1];
 
 static const char *file_name = "(no file)";
 static int faults = 0;
@@ -50,6 +55,7 @@ static void constants(void) {
     hold(BATTENPLUM_NUMBER(0x001B0102u) == BATTENPLUM_FAILING_LOAD && BATTENPLUM_POSITION(0x001B0102u) == 0x0102, "a verdict is taken apart wrongly");
     hold(battenplum_rounds((uint64_t)7 << 32 | 0x00190001u) == 7, "rounds are taken out wrongly");
     hold(battenplum_length((uint64_t)BATTENPLUM_TEXT_MAX << 32) == BATTENPLUM_TEXT_MAX, "a length is taken out wrongly");
+    hold(BATTENPLUM_RULE_ROWS * 3 == BATTENPLUM_RULE_ENTRIES, "the most rules are not those of the table");
     hold(sizeof room.loads == BATTENPLUM_LOAD_ENTRIES * sizeof(int32_t) && sizeof room.rules == BATTENPLUM_RULE_ENTRIES * sizeof(uint16_t)
              && sizeof room.literals == BATTENPLUM_LITERALS * sizeof(uint16_t) && sizeof room.clauses == BATTENPLUM_CLAUSE_ENTRIES * sizeof(uint16_t)
              && sizeof room.load_literals == BATTENPLUM_TERMS * sizeof(uint16_t) && sizeof room.minutes == BATTENPLUM_TERMS * sizeof(int16_t)
@@ -318,6 +324,106 @@ static void indexed(const battenplum_tables *book) {
          "lengths that are wrong come before a mark of 2");
 }
 
+/* Fills all that the evaluation by the index writes, so that what it leaves alone is seen. */
+static void fill_followed(void) {
+    memset(followed_values, 0xAA, sizeof followed_values);
+    memset(followed_levels, 0xAA, sizeof followed_levels);
+    memset(followed_work, 0xAA, sizeof followed_work);
+    memset(starts, 0xAA, sizeof starts);
+    memset(entries, 0xAA, sizeof entries);
+    memset(counts, 0xAA, sizeof counts);
+}
+
+/* The call below the struct, with so many starts, entries and counts. */
+static uint64_t plain_follow(const battenplum_tables *book, const uint8_t *open, size_t starts_len, size_t entries_len, size_t counts_len) {
+    fill_followed();
+    return battenplum_evaluate_indexed(book->n, book->rules, book->rules_len, book->literals, book->literals_len, book->clauses,
+                                       book->clauses_len, book->loads, book->loads_len, book->load_literals, book->load_literals_len,
+                                       book->minutes, book->minutes_len, book->marks, book->marks_len, open, book->n, followed_values,
+                                       book->n, followed_levels, book->n, followed_work, book->n, starts, starts_len, entries, entries_len,
+                                       counts, counts_len);
+}
+
+/* Nothing is written from these places on: of what there is for each atom, of the index, and of the counts. */
+static int unfollowed_from(size_t atom, size_t start, size_t entry, size_t rule) {
+    while (atom < BATTENPLUM_ATOMS && followed_values[atom] == 0xAA && followed_levels[atom] == 0xAAAA && followed_work[atom] == 0xAAAA) atom++;
+    while (rule < sizeof counts / sizeof counts[0] && counts[rule] == 0xAAAA) rule++;
+    return atom == BATTENPLUM_ATOMS && unindexed_from(start, entry) && rule == sizeof counts / sizeof counts[0];
+}
+
+/* Refused with this verdict, after no round, and nothing is written. */
+static int stopped(uint64_t answer, uint32_t verdict) { return answer == verdict && unfollowed_from(0, 0, 0, 0); }
+
+/* The counts are what a look at every literal of every rule finds not to be true in the model. */
+static int tells_lacking(const battenplum_tables *book) {
+    const size_t rules = book->rules_len / 3;
+    size_t rule, place;
+
+    for (rule = 0; rule < rules; rule++) {
+        const uint16_t *row = book->rules + 3 * rule;
+        size_t lacking = 0;
+        for (place = 0; place < row[2]; place++) {
+            const unsigned literal = book->literals[row[1] + place];
+            if (model[literal / 2] != 1 - literal % 2) lacking++;
+        }
+        if (counts[rule] != lacking) return 0;
+    }
+    return 1;
+}
+
+/* What was left last is what the plain evaluation leaves, the index, and the counts; or nothing, where the plain one is refused. */
+static int follows(const battenplum_tables *book, uint64_t answer, uint64_t made) {
+    const uint32_t number = BATTENPLUM_NUMBER(made);
+
+    if (answer != made) return 0;
+    if (number != BATTENPLUM_ACCEPTED && number != BATTENPLUM_UNDECIDED && number != BATTENPLUM_FAILING_CLAUSE
+        && number != BATTENPLUM_FAILING_LOAD)
+        return stopped(answer, (uint32_t)made);
+    return memcmp(followed_values, model, book->n) == 0 && memcmp(followed_levels, model_levels, book->n * sizeof(uint16_t)) == 0
+           && memcmp(followed_work, model_work, book->n * sizeof(uint16_t)) == 0 && tells_users(book) && tells_lacking(book)
+           && unfollowed_from(book->n, BATTENPLUM_STARTS(book->n), battenplum_entries(book->rules, book->rules_len), book->rules_len / 3);
+}
+
+/* Lengths that are one off: of the counts 17, of the index 33. 31 stands between them, and 21 behind both. */
+static void bad_lengths(const battenplum_tables *book, const uint8_t *open) {
+    const size_t starts_due = BATTENPLUM_STARTS(book->n), entries_due = battenplum_entries(book->rules, book->rules_len);
+    const size_t rows = book->rules_len / 3;
+    const uint32_t bad_counts = (uint32_t)BATTENPLUM_BAD_LENGTH << 16, bad_index = (uint32_t)BATTENPLUM_INDEX_SIZE << 16;
+    battenplum_tables bad = *book;
+
+    hold(stopped(plain_follow(book, open, starts_due, entries_due, rows + 1), bad_counts), "one count too many is not refused");
+    hold(rows == 0 || stopped(plain_follow(book, open, starts_due, entries_due, rows - 1), bad_counts), "one count too few is not refused");
+    hold(stopped(plain_follow(book, open, starts_due - 1, entries_due, rows), bad_index), "an evaluation takes one start too few");
+    hold(stopped(plain_follow(book, open, starts_due + 1, entries_due, rows), bad_index), "an evaluation takes one start too many");
+    hold(stopped(plain_follow(book, open, starts_due, entries_due + 1, rows), bad_index), "an evaluation takes one entry too many");
+    hold(entries_due == 0 || stopped(plain_follow(book, open, starts_due, entries_due - 1, rows), bad_index), "an evaluation takes one entry too few");
+    if (book->n == 0) return;
+    memset(setting, 2, book->n);
+    hold(stopped(plain_follow(book, setting, starts_due, entries_due, rows), (uint32_t)BATTENPLUM_BAD_VALUE << 16), "an open value of 2 is taken");
+    hold(stopped(plain_follow(book, setting, starts_due - 1, entries_due, rows), bad_index), "an open value of 2 comes before the index");
+    memcpy(marks, book->marks, book->n);
+    marks[book->n - 1] = 2;
+    bad.marks = marks;
+    hold(stopped(plain_follow(&bad, setting, starts_due - 1, entries_due, rows), (uint32_t)BATTENPLUM_BAD_MARK << 16 | (uint32_t)(book->n - 1)),
+         "lengths of the index come before a mark of 2");
+    hold(stopped(plain_follow(&bad, setting, starts_due - 1, entries_due, rows + 1), bad_counts), "a mark of 2 comes before the counts");
+}
+
+/* The evaluation that follows the index, by the plain call and by the struct, comes to what the plain evaluation does. */
+static void followed(const battenplum_tables *book, const uint8_t *open) {
+    const size_t entries_due = battenplum_entries(book->rules, book->rules_len);
+    const uint64_t made = battenplum_evaluate_tables(book, open, model, model_levels, model_work);
+    uint64_t answer = plain_follow(book, open, BATTENPLUM_STARTS(book->n), entries_due, book->rules_len / 3);
+
+    hold(follows(book, answer, made), "the evaluation by the index comes to something else");
+    fill_followed();
+    answer = battenplum_evaluate_indexed_tables(book, open, followed_values, followed_levels, followed_work, starts, entries, counts);
+    hold(follows(book, answer, made), "the struct's call evaluates by the index otherwise");
+    answer = battenplum_evaluate_indexed_tables(book, open, followed_values, followed_levels, followed_work, starts, entries, counts);
+    hold(follows(book, answer, made), "what the arrays held makes a difference to the evaluation");
+    bad_lengths(book, open);
+}
+
 /* The largest index, and one literal more. Rules share their bodies, which count for each. */
 static void largest_index(void) {
     static const char small[] = "(atoms 1)\n(claim (0 0))\n";
@@ -334,11 +440,19 @@ static void largest_index(void) {
     book.literals_len = BATTENPLUM_LITERALS;
     hold(battenplum_entries(rules, 6) == BATTENPLUM_LITERALS, "the bodies are counted otherwise");
     indexed(&book);
+    followed(&book, room.values);
     rules[5]++;
     hold(plain_index(&book, BATTENPLUM_STARTS(1), BATTENPLUM_LITERALS + 1) == (uint32_t)BATTENPLUM_INDEX_SIZE << 16 && unindexed_from(0, 0),
          "one literal too many is indexed");
     hold(battenplum_index_tables(&book, starts, entries) == (uint32_t)BATTENPLUM_INDEX_SIZE << 16 && unindexed_from(0, 0),
          "the struct's call indexes one literal too many");
+    hold(stopped(plain_follow(&book, room.values, BATTENPLUM_STARTS(1), BATTENPLUM_LITERALS + 1, 2), (uint32_t)BATTENPLUM_INDEX_SIZE << 16),
+         "one literal too many is followed");
+    hold(stopped(battenplum_evaluate_indexed_tables(&book, room.values, followed_values, followed_levels, followed_work, starts, entries, counts),
+                 (uint32_t)BATTENPLUM_INDEX_SIZE << 16),
+         "the struct's call follows one literal too many");
+    hold((uint32_t)battenplum_evaluate_tables(&book, room.values, model, model_levels, model_work) == BATTENPLUM_ACCEPTED,
+         "the plain evaluation refuses a book without an index");
 }
 
 /* A refused text leaves a book without atoms, which is written like any other. */
@@ -353,6 +467,7 @@ static void nothing_read(void) {
     hold(write_back(&book, room.values, room.levels) == sizeof empty - 1 && memcmp(written, empty, sizeof empty - 1) == 0,
          "a book without atoms is not written");
     indexed(&book);
+    followed(&book, room.values);
 }
 
 /* A right claim for a book that was changed: a rule struck and its head declared, an atom added, and all that is defined worked out again. */
@@ -395,6 +510,7 @@ static int one_book(size_t length) {
     hold(battenplum_read_tables(text, length, &room, &book, &state) == BATTENPLUM_ACCEPTED, "the text is not read");
     plain_read(length, &book, state);
     indexed(&book);
+    followed(&book, room.values);
     hold(state != BATTENPLUM_STATE_NONE, "the text has neither open facts nor a claim");
     if (state == BATTENPLUM_STATE_CLAIM) {
         hold(battenplum_check_tables(&book, room.values, room.levels) == whole, "the claim's verdict is not the text's");

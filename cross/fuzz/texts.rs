@@ -37,7 +37,7 @@ pub extern "C" fn LLVMFuzzerTestOneInput(bytes: *const u8, length: usize) -> i32
     0
 }
 
-/// The verdict, the report, the reading into tables of various lengths, the check or the maker on what was read, its index in slices
+/// The verdict, the report, the reading into tables of various lengths, the check or both makers on what was read, its index in slices
 /// of various lengths, which the session adds to every call with tables, and both ways of writing it back.
 fn compare(library: &dyn Calls, text: &[u8]) -> Compared {
     let random = Random::new(text.iter().fold(0, |sum, &byte| sum * 31 % 1_000_003 + u64::from(byte)));

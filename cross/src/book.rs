@@ -25,7 +25,7 @@ impl Verdict {
 }
 
 /// N and the seven tables of a book, in the paper's layout. Any content and any lengths, sound or not.
-#[derive(Clone, PartialEq, Eq, Debug, Default)]
+#[derive(Clone, PartialEq, Eq, Hash, Debug, Default)]
 pub struct Book {
     pub n: usize,
     pub rules: Vec<u16>,
@@ -141,5 +141,39 @@ pub struct Indexed {
 impl Indexed {
     pub fn refused(verdict: Verdict) -> Indexed {
         Indexed { verdict, written: None }
+    }
+}
+
+/// The lengths, in entries, of the slices that the maker writes which follows the index.
+#[derive(Clone, Copy, PartialEq, Eq, Debug)]
+pub struct FollowingLengths {
+    pub values: usize,
+    pub levels: usize,
+    pub work: usize,
+    pub starts: usize,
+    pub entries: usize,
+    pub counts: usize,
+}
+
+/// What these slices then hold. Of each rule row's body, `counts` has how many literals are not true in the model, repeats counted.
+#[derive(Clone, PartialEq, Eq, Debug, Default)]
+pub struct Followed {
+    pub claim: Claim,
+    pub work: Vec<u16>,
+    pub index: Index,
+    pub counts: Vec<u16>,
+}
+
+/// What the maker that follows the index answers and writes, or nothing where the paper says that nothing is written.
+#[derive(Clone, PartialEq, Eq, Debug)]
+pub struct MadeIndexed {
+    pub verdict: Verdict,
+    pub rounds: u32,
+    pub written: Option<Followed>,
+}
+
+impl MadeIndexed {
+    pub fn refused(verdict: Verdict) -> MadeIndexed {
+        MadeIndexed { verdict, rounds: 0, written: None }
     }
 }

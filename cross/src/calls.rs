@@ -1,4 +1,4 @@
-//! The seven calls on plain slices, as one trait: the C library is one implementation of it, `fast` the other.
+//! The eight calls on plain slices, as one trait: the C library is one implementation of it, `fast` the other.
 
 use crate::book::Book;
 
@@ -43,6 +43,16 @@ pub struct TablesToFill<'a> {
     pub levels: &'a mut [u16],
 }
 
+/// The slices that the maker writes which follows the index.
+pub struct FollowingSlices<'a> {
+    pub values: &'a mut [u8],
+    pub levels: &'a mut [u16],
+    pub work: &'a mut [u16],
+    pub starts: &'a mut [u16],
+    pub entries: &'a mut [u16],
+    pub counts: &'a mut [u16],
+}
+
 /// `BATTENPLUM_PAGE_SIZE` of the header: such a page holds every report, and a shorter one is left as it is.
 pub const PAGE_SIZE: usize = 19_487;
 
@@ -59,6 +69,7 @@ pub trait Calls {
     fn read(&self, text: &[u8], tables: TablesToFill, answer: &mut [u32]) -> u32;
     fn write(&self, tables: Tables, values: &[u8], levels: &[u16], text: &mut [u8]) -> u64;
     fn index(&self, tables: Tables, starts: &mut [u16], entries: &mut [u16]) -> u32;
+    fn evaluate_indexed(&self, tables: Tables, open_values: &[u8], slices: FollowingSlices) -> u64;
 }
 
 /// `build/libbattenplum.a`.
@@ -139,6 +150,24 @@ mod c {
             starts: *mut u16, starts_len: usize,
             entries: *mut u16, entries_len: usize,
         ) -> u32;
+
+        pub fn battenplum_evaluate_indexed(
+            n: usize,
+            rules: *const u16, rules_len: usize,
+            literals: *const u16, literals_len: usize,
+            clauses: *const u16, clauses_len: usize,
+            loads: *const i32, loads_len: usize,
+            load_literals: *const u16, load_literals_len: usize,
+            minutes: *const i16, minutes_len: usize,
+            marks: *const u8, marks_len: usize,
+            open_values: *const u8, open_values_len: usize,
+            values: *mut u8, values_len: usize,
+            levels: *mut u16, levels_len: usize,
+            work: *mut u16, work_len: usize,
+            starts: *mut u16, starts_len: usize,
+            entries: *mut u16, entries_len: usize,
+            counts: *mut u16, counts_len: usize,
+        ) -> u64;
     }
 }
 
@@ -242,6 +271,27 @@ impl Calls for Library {
                 t.marks.as_ptr(), t.marks.len(),
                 starts.as_mut_ptr(), starts.len(),
                 entries.as_mut_ptr(), entries.len(),
+            )
+        }
+    }
+    fn evaluate_indexed(&self, t: Tables, open_values: &[u8], s: FollowingSlices) -> u64 {
+        unsafe {
+            c::battenplum_evaluate_indexed(
+                t.n,
+                t.rules.as_ptr(), t.rules.len(),
+                t.literals.as_ptr(), t.literals.len(),
+                t.clauses.as_ptr(), t.clauses.len(),
+                t.loads.as_ptr(), t.loads.len(),
+                t.load_literals.as_ptr(), t.load_literals.len(),
+                t.minutes.as_ptr(), t.minutes.len(),
+                t.marks.as_ptr(), t.marks.len(),
+                open_values.as_ptr(), open_values.len(),
+                s.values.as_mut_ptr(), s.values.len(),
+                s.levels.as_mut_ptr(), s.levels.len(),
+                s.work.as_mut_ptr(), s.work.len(),
+                s.starts.as_mut_ptr(), s.starts.len(),
+                s.entries.as_mut_ptr(), s.entries.len(),
+                s.counts.as_mut_ptr(), s.counts.len(),
             )
         }
     }

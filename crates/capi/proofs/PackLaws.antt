@@ -26,12 +26,14 @@ use Rattle.booktext.specs.declared.Book.{Book}
 use Rattle.booktext.specs.Answers.{spaceOf, stateNumber, answerOf, Reads}
 use Rattle.evaluator.proofs.Positions.{evaluate-position, evaluate-rounds}
 use Rattle.booktext.proofs.Positions.{text-position}
+use Rattle.indexed.specs.EvaluateIndexed.{IndexedSlices, EvaluatesIndexed}
+use Rattle.indexed.proofs.Theorems.{indexed-position, indexed-rounds}
 use Rattle.writing.specs.declared.Written.{Written}
 use Rattle.writing.specs.BookForms.{textOf}
 use Rattle.writing.specs.Writing.{writeOf, writtenOf, Writes}
 use Rattle.writing.proofs.WriteLaws.{promised-as, verdict-as}
 use Rattle.writing.proofs.Theorems.{written-position, written-length}
-use Rattle.capi.specs.Packing.{packed, packedWith, countsOf, noAnswer, EvaluatedForC, sevenPlaces, ReadForC, WrittenForC}
+use Rattle.capi.specs.Packing.{packed, packedWith, countsOf, noAnswer, EvaluatedForC, EvaluatedIndexedForC, sevenPlaces, ReadForC, WrittenForC}
 use Rattle.capi.specs.internal.Counts.{WithinBook}
 
 -- ── Packed verdicts ──
@@ -56,6 +58,26 @@ module _
   unfolding packedWith
   made-packed code packs =
       record { answered = rw (packs, a .verdictIs, a .roundsIs); valuesIs = a .valuesIs; levelsIs = a .levelsIs; workIs = a .workIs }
+
+-- ── The maker that follows the index ──
+
+module _
+    (t : Tables) (s : IndexedSlices) {verdict : Verdict} {rounds : ℕ} {values levels work starts entries counts : List ℕ}
+    (e : EvaluatesIndexed t s verdict rounds values levels work starts entries counts) where
+  -- Its rounds and its verdict's position are small too.
+  pub followed-small : (positionOf verdict ≤ maxPosition) × (rounds ≤ maxAtoms)
+  followed-small = (rw (e .evaluation .verdictIs) (indexed-position t s), rw (e .evaluation .roundsIs) (indexed-rounds t s))
+
+  pub followed-packed :
+      (code : ℕ) → code ≡ packed verdict →
+      EvaluatedIndexedForC t s (rounds * 4294967296 + code) values levels work starts entries counts
+  unfolding packedWith
+  followed-packed code packs =
+      let a = e .evaluation in
+      record {
+        evaluated = record { answered = rw (packs, a .verdictIs, a .roundsIs); valuesIs = a .valuesIs; levelsIs = a .levelsIs; workIs = a .workIs };
+        left = e .left;
+      }
 
 -- ── The writer ──
 

@@ -21,6 +21,8 @@ use Rattle.outcome.specs.Outcomes.{outcomeOf}
 use Rattle.outcome.proofs.Bounds.{outcome-position}
 use Rattle.indexing.specs.Index.{indexVerdict}
 use Rattle.indexing.proofs.Theorems.{index-position}
+use Rattle.indexed.specs.EvaluateIndexed.{IndexedSlices, evaluateIndexedOf}
+use Rattle.indexed.proofs.Theorems.{indexed-position}
 use Rattle.writing.specs.Writing.{writeOf}
 use Rattle.writing.proofs.Theorems.{written-position}
 use Rattle.capi.specs.Packing.{packed, packedWith, Unpacks}
@@ -32,12 +34,15 @@ unpacks verdict l =
     let n = verdict-number verdict in
     record { number = omega arith; position = omega arith; answers = λ e. omega arith }
 
--- and so does the verdict of every call: of the check, the maker, a text, the reader, the writer and the index.
+-- and so does the verdict of every call: of the check, both makers, a text, the reader, the writer and the index.
 pub check-unpacks : (t : Tables) (values levels : List ℕ) → Unpacks (checkOf t values levels)
 check-unpacks t values levels = unpacks _ (check-position t values levels)
 
 pub evaluate-unpacks : (t : Tables) (setting values levels work : List ℕ) → Unpacks (evaluateOf t setting values levels work .verdict)
 evaluate-unpacks t setting values levels work = unpacks _ (evaluate-position t setting values levels work)
+
+pub evaluate-indexed-unpacks : (t : Tables) (s : IndexedSlices) → Unpacks (evaluateIndexedOf t s .verdict)
+evaluate-indexed-unpacks t s = unpacks _ (indexed-position t s)
 
 pub text-unpacks : (text : List ℕ) → Unpacks (outcomeOf text .verdict)
 text-unpacks text = unpacks _ (outcome-position text)

@@ -14,6 +14,7 @@ use Rattle.booktext.specs.declared.Book.{Book}
 use Rattle.booktext.specs.Answers.{stateNumber, answerOf, spaceOf, contentsAfter}
 use Rattle.evaluator.specs.Evaluate.{Evaluation}
 use Rattle.indexing.specs.Index.{indexStarts, indexEntries, indexVerdict, builtOr}
+use Rattle.indexed.specs.EvaluateIndexed.{IndexedSlices, evaluateIndexedOf, IndexLeft}
 use Rattle.writing.specs.BookForms.{textOf}
 use Rattle.writing.specs.Writing.{writeOf, writtenOf, bufferAfter}
 
@@ -40,6 +41,12 @@ pub record EvaluatedForC (e : Evaluation) (answer : ℕ) (values levels work : L
   pub valuesIs : values ≡ e .values
   pub levelsIs : levels ≡ e .levels
   pub workIs : work ≡ e .work
+
+-- What the call of the maker that follows the index promises: its answer, and the six slices afterwards.
+pub record EvaluatedIndexedForC
+    (t : Tables) (s : IndexedSlices) (answer : ℕ) (values levels work starts entries counts : List ℕ) : Type 0 where
+  pub evaluated : EvaluatedForC (evaluateIndexedOf t s) answer values levels work
+  pub left : IndexLeft t s starts entries counts
 
 -- What the reader's call promises. With seven places it is the reader's answer; with any other number of places nothing is written.
 unfoldable pub sevenPlaces : List ℕ → Bool

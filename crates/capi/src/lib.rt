@@ -10,13 +10,14 @@ ghost use Rattle.evaluator.specs.Evaluate.{evaluateOf};
 ghost use Rattle.forms.specs.Contents.{lentTables};
 ghost use Rattle.outcome.specs.Outcomes.{outcomeOf};
 ghost use Rattle.report.specs.Reports.{Reported};
-ghost use Rattle.capi.specs.Packing.{packed, countsOf, EvaluatedForC, ReadForC, WrittenForC, IndexedForC};
+ghost use Rattle.capi.specs.Packing.{packed, countsOf, EvaluatedForC, EvaluatedIndexedForC, ReadForC, WrittenForC, IndexedForC};
 ghost use Rattle.capi.specs.internal.Counts.{WithinBook};
 use booktext::Book;
 use booktext::read;
 use booktext::state_number;
 use checker::check;
 use evaluator::evaluate;
+use indexed::evaluate_indexed;
 use indexing::index;
 use outcome::outcome_of;
 use report::report;
@@ -127,6 +128,60 @@ pub extern "C" fn battenplum_evaluate(
     );
     let verdict = answer.verdict;
     answer.rounds as u64 * 4_294_967_296 + pack(verdict) as u64
+}
+
+// The maker that follows the index, on lent tables and with the index and the counts in lent slices: rounds × 2^32 above the packed verdict.
+#[no_mangle]
+pub extern "C" fn battenplum_evaluate_indexed(
+    n: usize,
+    rules: &[u16],
+    literals: &[u16],
+    clauses: &[u16],
+    loads: &[i32],
+    load_literals: &[u16],
+    minutes: &[i16],
+    marks: &[u8],
+    open_values: &[u8],
+    values: &mut [u8],
+    levels: &mut [u16],
+    work: &mut [u16],
+    starts: &mut [u16],
+    entries: &mut [u16],
+    counts: &mut [u16],
+) -> u64
+    ensures { λ r. ⌜ EvaluatedIndexedForC
+        (lent n (now (rules .entry)) (now (literals .entry)) (now (clauses .entry)) (now (loads .entry)) (now («load_literals» .entry))
+        (now (minutes .entry)) (now (marks .entry)))
+        (record {
+          setting = now («open_values» .entry);
+          values = now (values .entry);
+          levels = now (levels .entry);
+          work = now (work .entry);
+          starts = now (starts .entry);
+          entries = now (entries .entry);
+          counts = now (counts .entry);
+        })
+        r (now (values .exit)) (now (levels .exit)) (now (work .exit)) (now (starts .exit)) (now (entries .exit)) (now (counts .exit)) ⌝ }
+{
+    let followed = evaluate_indexed(
+        n,
+        rules,
+        literals,
+        clauses,
+        loads,
+        load_literals,
+        minutes,
+        marks,
+        open_values,
+        values,
+        levels,
+        work,
+        starts,
+        entries,
+        counts,
+    );
+    let verdict = followed.verdict;
+    followed.rounds as u64 * 4_294_967_296 + pack(verdict) as u64
 }
 
 // The writer on lent tables and a claim: the text's length × 2^32 above the packed verdict.

@@ -27,7 +27,7 @@ pub struct Answer {
 }
 
 // The first fault of the model: an undecided atom, or else a failing clause or load line.
-fn model_fault(
+pub fn model_fault(
     clauses: &[u16],
     literals: &[u16],
     loads: &[i32],

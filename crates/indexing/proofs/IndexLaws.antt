@@ -88,16 +88,17 @@ module _ (t : Tables) (none : (test : Test) → List·Memᴰ test (tableTests t)
   sortable-rules few =
       record { within = sound-rules t none .within; known = known-literal; few = omega arith; fewRows = omega (arith, sound-sizes t none .fewRules) }
 
+  -- With slices of its lengths the index can be built.
+  pub fitting-buildable :
+      (starts entries : List ℕ) → IndexFits t (length starts) (length entries) → Buildable (t .rules) (t .literals) starts entries (2 * t .atoms)
+  fitting-buildable starts entries fits =
+      record { sortable = sortable-rules (fits .few); slotsLong = fits .startsLong; entriesLong = fits .entriesLong }
+
 pub ready :
     (t : Tables) (starts entries : List ℕ) → indexVerdict t (length starts) (length entries) ≡ Accepted →
     Buildable (t .rules) (t .literals) starts entries (2 * t .atoms)
 ready t starts entries accepted =
-    let fits = accepted-fits t _ _ accepted in
-    record {
-      sortable = sortable-rules t (lent-tables t [] (accepted-none t _ _ accepted)) (fits .few);
-      slotsLong = fits .startsLong;
-      entriesLong = fits .entriesLong;
-    }
+    fitting-buildable t (lent-tables t [] (accepted-none t _ _ accepted)) starts entries (accepted-fits t _ _ accepted)
 
 -- What a refusal and what an index leaves.
 module _ {t : Tables} {starts entries : List ℕ} where

@@ -6,7 +6,7 @@ ghost use Rattle.tables.specs.Limits.{maxAtoms};
 ghost use Rattle.tables.specs.Sound.{lent};
 ghost use Rattle.indexing.specs.Index.{indexFits, indexVerdict, Indexes};
 
-mod building;
+pub mod building;
 
 use building::build;
 use tables::Fault;
@@ -18,7 +18,7 @@ use tables::totals::rules_total;
 use tables::values::not_held_atom;
 
 // Whether the bodies are within the limit of literals, and slices of these lengths are exactly as long as the index.
-fn index_fits(atoms: usize, rules: &[u16], starts: usize, entries: usize) -> bool
+pub fn index_fits(atoms: usize, rules: &[u16], starts: usize, entries: usize) -> bool
     requires { ⌜ (atoms ≤ maxAtoms) × (length (now rules) ≤ 65536) ⌝ }
     ensures { λ r. ⌜ r ≡ indexFits atoms (now (rules .entry)) starts entries ⌝ }
 {

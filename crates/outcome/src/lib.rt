@@ -1,29 +1,31 @@
 // What a text comes to: it is read into tables of full size, and then its claim is checked or its open form evaluated.
 ghost use mathlib.Core.Path.{_≡_};
-ghost use Prim.Native.Nat.{_≤_};
 ghost use lib.ListN.{length};
-ghost use Rattle.tables.specs.Limits.{maxAtoms};
 ghost use Rattle.tables.specs.Sound.{lent};
 ghost use Rattle.forms.specs.Contents.{lentTables};
 ghost use Rattle.evaluator.specs.Evaluate.{isMade};
 ghost use Rattle.outcome.specs.Outcomes.{fullSpace, evaluationOutcome, bookOutcome, outcomeOf};
 ghost use Rattle.booktext.specs.UsedParts.{usedParts};
-ghost use Rattle.outcome.specs.internal.Promises.{GivesOutcome, HoldEveryAtom, FitsBook};
+ghost use Rattle.outcome.specs.internal.Promises.{GivesOutcome, HoldEveryAtom, FitsArrays, FitsBook, MakesEvaluation};
 use booktext::Book;
 use booktext::StateForm;
 use booktext::answer_of;
 use checker::check;
-use evaluator::evaluate;
+use evaluator::Answer;
+use indexed::evaluate_indexed;
 use judging::reached::Space;
 use lines::walk;
 use tables::Fault;
 use tables::Verdict;
+use tables::rows::rule_count;
 use tables::sizes::MAX_ATOMS;
 use tables::sizes::MAX_CLAUSE_ENTRIES;
 use tables::sizes::MAX_LITERALS;
 use tables::sizes::MAX_LOAD_ENTRIES;
 use tables::sizes::MAX_RULE_ENTRIES;
+use tables::sizes::MAX_RULE_ROWS;
 use tables::sizes::MAX_TERMS;
+use tables::totals::rules_total;
 
 // The verdict, the state form, for how many atoms values and levels were made, and the rounds.
 pub struct Outcome {
@@ -48,6 +50,52 @@ pub fn is_made(verdict: Verdict) -> bool
     }
 }
 
+// Evaluates a book at its open values, in values and levels of as many entries as there are atoms. The index, the counts and the work are held
+// inside the call.
+fn evaluate_inside(
+    rules: &[u16],
+    literals: &[u16],
+    clauses: &[u16],
+    loads: &[i32],
+    load_literals: &[u16],
+    minutes: &[i16],
+    marks: &[u8],
+    given: &[u8],
+    values: &mut [u8],
+    levels: &mut [u16],
+) -> Answer
+    requires { ⌜ FitsArrays (now rules) (now given) ⌝ }
+    ensures { λ r. ⌜ MakesEvaluation
+        (lent (length (now (given .entry))) (now (rules .entry)) (now (literals .entry)) (now (clauses .entry)) (now (loads .entry))
+        (now («load_literals» .entry)) (now (minutes .entry)) (now (marks .entry))) (now (given .entry))
+        (now (values .entry)) (now (levels .entry)) (r .verdict) (r .rounds) (now (values .exit)) (now (levels .exit)) ⌝ }
+{
+    let mut work = [0u16; MAX_ATOMS];
+    let mut starts = [0u16; 2 * MAX_ATOMS + 1];
+    let mut entries = [0u16; MAX_LITERALS];
+    let mut counts = [0u16; MAX_RULE_ROWS];
+    let atoms = given.len();
+    let rows = rule_count(rules);
+    let total = rules_total(rules);
+    evaluate_indexed(
+        atoms,
+        rules,
+        literals,
+        clauses,
+        loads,
+        load_literals,
+        minutes,
+        marks,
+        given,
+        values,
+        levels,
+        &mut work[0..atoms],
+        &mut starts[0..2 * atoms + 1],
+        &mut entries[0..total],
+        &mut counts[0..rows],
+    )
+}
+
 // Evaluates a book at its open values; what is made stands at the front of the values and levels.
 fn evaluate_book(
     rules: &[u16],
@@ -61,7 +109,7 @@ fn evaluate_book(
     values: &mut [u8],
     levels: &mut [u16],
 ) -> Outcome
-    requires { ⌜ length (now given) ≤ maxAtoms ⌝ }
+    requires { ⌜ FitsArrays (now rules) (now given) ⌝ }
     requires { ⌜ HoldEveryAtom (now values) (now levels) ⌝ }
     ensures { λ r. ⌜ GivesOutcome
         (evaluationOutcome (lent (length (now (given .entry))) (now (rules .entry)) (now (literals .entry))
@@ -70,10 +118,8 @@ fn evaluate_book(
         (now (values .entry)) (now (levels .entry))
         (r .verdict) (r .state) (r .atoms) (r .rounds) (now (values .exit)) (now (levels .exit)) ⌝ }
 {
-    let mut work = [0u16; MAX_ATOMS];
     let atoms = given.len();
-    let answer = evaluate(
-        atoms,
+    let answer = evaluate_inside(
         rules,
         literals,
         clauses,
@@ -84,7 +130,6 @@ fn evaluate_book(
         given,
         &mut values[0..atoms],
         &mut levels[0..atoms],
-        &mut work[0..atoms],
     );
     let verdict = answer.verdict;
     let made = if is_made(verdict) { atoms } else { 0 };

@@ -4,4 +4,5 @@ mod setting;
 mod stages;
 
 pub use setting::bad_setting;
+pub use setting::start_values;
 pub use stages::evaluate_stages;

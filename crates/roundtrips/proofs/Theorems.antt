@@ -10,10 +10,7 @@ use lib.ListN.{length, take}
 use borrow.Author.Tests.{eqb-true}
 use Rattle.wellfounded.specs.Lists.{all}
 use Rattle.tables.specs.declared.Verdict.the-variants.{Accepted}
-use Rattle.tables.specs.Limits.{maxLiterals}
-use Rattle.tables.specs.Rows.{literalsByRule}
-use Rattle.tables.specs.Sound.{Tables, lent, claimSlices, Sound}
-use Rattle.tables.proofs.Faults.{refused-accepted}
+use Rattle.tables.specs.Sound.{Tables, claimSlices, Sound}
 use Rattle.tables.proofs.SoundTables.{lent-tables}
 use Rattle.format.specs.Forms.{Form, claimForm, renderAll}
 use Rattle.format.specs.Views.{viewOf}
@@ -35,15 +32,16 @@ use Rattle.booktext.specs.GivenEntries.{ClaimEntries}
 use Rattle.booktext.specs.UsedParts.{usedParts, tablesOf}
 use Rattle.booktext.proofs.Filling.{used-counts}
 use Rattle.booktext.proofs.UsedLaws.{used-tables, used-values, used-levels}
+use Rattle.booktext.proofs.FewLiterals.{answer-passed}
 use Rattle.booktext.proofs.GivenEntries.{claim-entries}
 use Rattle.writing.specs.declared.Written.{Written}
 use Rattle.writing.specs.BookForms.{textOf, bookForms}
-use Rattle.writing.specs.Writing.{literalsByRow, writeOf, writtenOf, bufferAfter, Writes, TextFits}
+use Rattle.writing.specs.Writing.{writeOf, writtenOf, bufferAfter, Writes, TextFits}
 use Rattle.writing.proofs.Theorems.{written-exactly}
 use Rattle.roundtrips.specs.RoundTrips.{HoldsBook, Writable, Consecutive, ReadBack, WrittenBack}
 use Rattle.roundtrips.proofs.Counted.{Counted, book-counted}
 use Rattle.roundtrips.proofs.Books.{rows-lie}
-use Rattle.roundtrips.proofs.Consecutive.{literals-end, book-consecutive}
+use Rattle.roundtrips.proofs.Consecutive.{book-consecutive}
 use Rattle.roundtrips.proofs.Written.{written-verdict, written-front}
 use Rattle.roundtrips.proofs.WrittenRead.{before-state, state-last, read-back}
 use Rattle.roundtrips.proofs.ReadWritten.{forms-again, last-claim}
@@ -62,12 +60,7 @@ written-read {t} {values} {levels} {before} {after} {written} {held} {tables} {b
 
 -- ── Read, then written ──
 
--- An accepted answer is that of a text that passed, and one with a claim that of a text that has ended with one.
-answer-passed : (j : Judged) → answerOf j .verdict ≡ Accepted → (s : Reached) × (j ≡ Passed s)
-unfolding answerOf
-answer-passed (Passed s) e = (s, refl)
-answer-passed (Failed fault at) e = absurd (refused-accepted e)
-
+-- An answer with a claim is that of a text that has ended with one.
 state-claims : (phase : ℕ) → stateOf phase ≡ ClaimState → phase ≡ claimStood
 unfolding stateOf
 state-claims phase = step (eqb phase openStood) (eqb phase claimStood) refl
@@ -119,12 +112,6 @@ module _ (text : List ℕ) (held : Contents) (s : Reached) (passed : judgeText (
   in-order : Consecutive (tablesOf (s .size) entries)
   unfolding entries
   in-order = rw (found .3) (book-consecutive (found .0) (found .1 .book .sequence) (s .size))
-
-  few-literals : literalsByRule (tablesOf (s .size) entries .rules) ≤ maxLiterals
-  unfolding entries tablesOf lent literalsByRow
-  few-literals =
-      let within = counts-within (afterAll start (found .0)) (found .1 .book .counts) in
-      rw (found .3) (omega (arith, literals-end (found .0) (found .1 .book .sequence), within .literals))
 
   module _ (book : Book) (tables : Contents) (r : Reads text held book tables) where
     answered : book ≡ answerOf (Passed s)
@@ -199,14 +186,6 @@ pub read-consecutive :
 read-consecutive {text} {held} {tables} {book} r accepted =
     let k = answer-passed (judgeText (spaceOf held) text) (ap (λ (b : Book). b .verdict) (sym (r .answered)) ∙ accepted) in
     rw (same-tables text held (k .0) (k .1) book tables r) (in-order text held (k .0) (k .1))
-
--- Its bodies, counted by rule, have no more literals than a table may have, so that they do not keep it from having an index.
-pub read-few-literals :
-    {text : List ℕ} {held tables : Contents} {book : Book} → Reads text held book tables → book .verdict ≡ Accepted →
-    literalsByRule (tablesOf (book .atoms) (usedParts book tables) .rules) ≤ maxLiterals
-read-few-literals {text} {held} {tables} {book} r accepted =
-    let k = answer-passed (judgeText (spaceOf held) text) (ap (λ (b : Book). b .verdict) (sym (r .answered)) ∙ accepted) in
-    rw (same-tables text held (k .0) (k .1) book tables r) (few-literals text held (k .0) (k .1))
 
 -- What was read of a text that ends with a claim, written to a buffer at least as long as the text, gives its bytes, if its tables pass.
 pub read-written :

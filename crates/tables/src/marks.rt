@@ -8,8 +8,8 @@ ghost use Rattle.tables.specs.internal.Marks.{isMarked, markWhere, Copie
 use super::rows::rule_count;
 use super::rows::rule_head;
 
-// Copies a book's marks to the front of others.
-fn copy_marks(marks: &[u8], defined: &mut [u8])
+// Copies marks, or values, to the front of others.
+pub fn copy_marks(marks: &[u8], defined: &mut [u8])
     requires { ⌜ length (now marks) ≤ length (now defined) ⌝ }
     ensures { λ r. ⌜ Copied (now (marks .entry)) (now (defined .entry)) (now (defined .exit)) ⌝ }
 {

@@ -18,7 +18,7 @@ use super::rows::RULE_WIDTH;
 
 pub const MAX_ATOMS: usize = 1024;
 
-const MAX_RULE_ROWS: usize = 2048;
+pub const MAX_RULE_ROWS: usize = 2048;
 
 pub const MAX_RULE_ENTRIES: usize = MAX_RULE_ROWS * RULE_WIDTH;
 

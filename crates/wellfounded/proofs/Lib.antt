@@ -3,6 +3,7 @@ pub mod Theorems
 pub mod Tests
 pub mod Lists
 pub mod Sums
+pub mod Tallies
 pub mod InPlace
 pub mod Reaches
 pub mod Literals

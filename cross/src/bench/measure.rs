@@ -2,7 +2,7 @@
 
 use super::families::{Books, Sample, SIZES};
 use super::timing::{compare, Patience, Times};
-use crate::calls::{Calls, TablesToFill, PAGE_SIZE, TEXT_MAX};
+use crate::calls::{Calls, FollowingSlices, TablesToFill, PAGE_SIZE, TEXT_MAX};
 
 #[derive(Clone, Copy, PartialEq, Eq, Debug)]
 pub enum Measured {
@@ -11,18 +11,20 @@ pub enum Measured {
     Check,
     Index,
     Evaluate,
+    EvaluateIndexed,
     VerdictOnClaim,
     VerdictOnOpen,
     ReportOnOpen,
 }
 
 impl Measured {
-    pub const ALL: [Measured; 8] = [
+    pub const ALL: [Measured; 9] = [
         Measured::Read,
         Measured::Write,
         Measured::Check,
         Measured::Index,
         Measured::Evaluate,
+        Measured::EvaluateIndexed,
         Measured::VerdictOnClaim,
         Measured::VerdictOnOpen,
         Measured::ReportOnOpen,
@@ -35,18 +37,19 @@ impl Measured {
             Measured::Check => "battenplum_check",
             Measured::Index => "battenplum_index",
             Measured::Evaluate => "battenplum_evaluate",
+            Measured::EvaluateIndexed => "battenplum_evaluate_indexed",
             Measured::VerdictOnClaim => "battenplum_verdict on a claim",
             Measured::VerdictOnOpen => "battenplum_verdict on an open form",
             Measured::ReportOnOpen => "battenplum_report on an open form",
         }
     }
 
-    /// What times are divided by.
+    /// What times are divided by. Both makers have the same unit, so that the cost of one can be held against that of the other.
     pub fn unit(self) -> &'static str {
         match self {
             Measured::Read | Measured::Write | Measured::VerdictOnClaim => "byte",
             Measured::Check | Measured::Index => "literal",
-            Measured::Evaluate => "literal and round",
+            Measured::Evaluate | Measured::EvaluateIndexed => "literal and round",
             Measured::VerdictOnOpen | Measured::ReportOnOpen => "byte and round",
         }
     }
@@ -57,7 +60,9 @@ impl Measured {
         let units: usize = match self {
             Measured::Read | Measured::Write | Measured::VerdictOnClaim => books.texts.iter().map(|text| text.claim.len()).sum(),
             Measured::Check | Measured::Index => books.samples.iter().map(|sample| sample.book.entries()).sum(),
-            Measured::Evaluate => books.samples.iter().map(|sample| sample.book.entries() * rounds(sample.rounds)).sum(),
+            Measured::Evaluate | Measured::EvaluateIndexed => {
+                books.samples.iter().map(|sample| sample.book.entries() * rounds(sample.rounds)).sum()
+            }
             Measured::VerdictOnOpen | Measured::ReportOnOpen => {
                 books.texts.iter().map(|text| text.open.len() * rounds(text.sample.rounds)).sum()
             }
@@ -87,6 +92,17 @@ impl Measured {
             Measured::Evaluate => {
                 calls.evaluate(tables, &sample.open, &mut lent.values[..n], &mut lent.levels[..n], &mut lent.work[..n])
             }
+            Measured::EvaluateIndexed => {
+                let slices = FollowingSlices {
+                    values: &mut lent.values[..n],
+                    levels: &mut lent.levels[..n],
+                    work: &mut lent.work[..n],
+                    starts: &mut lent.starts[..2 * n + 1],
+                    entries: &mut lent.entries[..sample.occurrences],
+                    counts: &mut lent.counts[..tables.rules.len() / 3],
+                };
+                calls.evaluate_indexed(tables, &sample.open, slices)
+            }
             Measured::VerdictOnClaim => calls.verdict(&texts.claim).into(),
             Measured::VerdictOnOpen => calls.verdict(&texts.open).into(),
             Measured::ReportOnOpen => calls.report(&texts.open, &mut lent.page) as u64,
@@ -94,7 +110,7 @@ impl Measured {
     }
 }
 
-/// Tables of full size, the maker's slices, a page, a text and an index, as a host would keep them.
+/// Tables of full size, the makers' slices, a page, a text and an index, as a host would keep them.
 pub struct Lent {
     rules: Vec<u16>,
     literals: Vec<u16>,
@@ -110,6 +126,7 @@ pub struct Lent {
     text: Vec<u8>,
     starts: Vec<u16>,
     entries: Vec<u16>,
+    counts: Vec<u16>,
 }
 
 impl Default for Lent {
@@ -129,6 +146,7 @@ impl Default for Lent {
             text: vec![0; TEXT_MAX],
             starts: vec![0; 2_049],
             entries: vec![0; 16_384],
+            counts: vec![0; 2_048],
         }
     }
 }

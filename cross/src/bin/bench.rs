@@ -33,7 +33,9 @@ fn main() {
     print_families(&families);
     let tables = Measured::ALL.map(|measured| (measured, print_table(measured, &families, patience)));
     let rows = |wanted| &tables.iter().find(|(measured, _)| *measured == wanted).expect("all calls are measured").1;
-    print_over(Measured::Index, rows(Measured::Index), Measured::Check, rows(Measured::Check));
+    for (one, other) in [(Measured::Index, Measured::Check), (Measured::Evaluate, Measured::EvaluateIndexed)] {
+        print_over(one, rows(one), other, rows(other));
+    }
     print_stack(&families);
 }
 
@@ -121,14 +123,15 @@ fn print_table(measured: Measured, families: &[Sizes], patience: Patience) -> Ve
 /// The library's time for one call over that for another on the same books.
 fn print_over(one: Measured, rows: &[Row], other: Measured, other_rows: &[Row]) {
     println!("\n### {} over {}\n\n| Family | ⅛ | ¼ | ½ | full |\n|---|--:|--:|--:|--:|", one.name(), other.name());
-    let mut largest = 0.0;
+    let (mut smallest, mut largest) = (f64::INFINITY, 0.0);
     for (row, other) in rows.iter().zip(other_rows) {
         let ratios: Vec<f64> = row.times.iter().zip(&other.times).map(|(one, other)| one.library / other.library).collect();
         let shown: Vec<String> = ratios.iter().map(|ratio| format!("{ratio:.2}")).collect();
         println!("| {} | {} |", row.family.name(), shown.join(" | "));
+        smallest = ratios.iter().copied().fold(smallest, f64::min);
         largest = ratios.into_iter().fold(largest, f64::max);
     }
-    println!("\nLargest ratio {largest:.2}.");
+    println!("\nSmallest ratio {smallest:.2}, largest {largest:.2}.");
 }
 
 /// The most that a call uses on any family's first book of full size.

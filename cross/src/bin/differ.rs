@@ -20,7 +20,7 @@ use cross::{
     solver::{Fault, Solver},
 };
 use std::{
-    collections::BTreeMap,
+    collections::{BTreeMap, HashSet},
     env, fs,
     io::{self, Write},
     path::{Path, PathBuf},
@@ -138,10 +138,12 @@ fn run<'a>(family: &Family, options: &Options, solver: Solver, sides: &[Side<'a>
     (session, found)
 }
 
-/// Whether nothing differs. The name of a family is printed before it is run, so that it is known if a side does not return.
+/// Whether nothing differs. The name of a family is printed before it is run, so that it is known if a side does not return. Settings are
+/// those of which both makers made the model: each counts once for its book, in its family and again in the whole run.
 fn compare(options: &Options, families: &[Family]) -> bool {
     let sides = [Side::Calls(&Library), Side::Calls(&Fast), Side::Program(&options.program)];
     let mut all = 0;
+    let mut settings = HashSet::new();
     let mut numbers = BTreeMap::new();
     for family in families {
         print!("{}: ", family.name);
@@ -152,8 +154,9 @@ fn compare(options: &Options, families: &[Family]) -> bool {
             println!("case {} differs\n{}\n{}", session.cases, found.what, found.case);
             return false;
         }
-        println!("{} cases, {:.1} s", session.cases, start.elapsed().as_secs_f64());
+        println!("{} cases, {} settings, {:.1} s", session.cases, session.settings.len(), start.elapsed().as_secs_f64());
         all += session.cases;
+        settings.extend(session.settings);
         session.numbers.into_iter().for_each(|(number, cases)| *numbers.entry(number).or_insert(0) += cases);
     }
     let shown: Vec<String> = numbers.iter().map(|(number, cases)| format!("{number} {cases} times")).collect();
@@ -163,6 +166,7 @@ fn compare(options: &Options, families: &[Family]) -> bool {
         println!("differ: no case has the numbers {missing:?}");
         return false;
     }
+    println!("differ: both makers alike on {} settings", settings.len());
     println!("differ: {all} cases, no difference");
     true
 }

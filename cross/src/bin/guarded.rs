@@ -1,4 +1,4 @@
-//! Runs cases of all seven calls with every lent slice between guard pages, and compares the outcomes with the solver. A library
+//! Runs cases of all eight calls with every lent slice between guard pages, and compares the outcomes with the solver. A library
 //! that touches anything beside a slice, or writes to one that it may only read, is ended by a signal.
 //!
 //!     guarded [--seed S] [--count C]

@@ -1,7 +1,8 @@
 //! One call with everything that is lent to it.
 
+use super::following;
 use super::forms::{claim_form, open_form, Forms};
-use crate::book::{Book, Lengths};
+use crate::book::{Book, FollowingLengths, Lengths};
 use std::fmt::{Debug, Display, Formatter, Result};
 
 /// The lengths of the slices that the maker writes.
@@ -56,6 +57,12 @@ pub enum Case {
         starts: usize,
         entries: usize,
     },
+    /// The maker that follows the index, with slices of these lengths to write.
+    EvaluateIndexed {
+        book: Book,
+        open_values: Vec<u8>,
+        lent: FollowingLengths,
+    },
     /// What the program prints for a text.
     Program {
         text: Vec<u8>,
@@ -72,6 +79,7 @@ impl Case {
             Case::Evaluate { .. } => "evaluate",
             Case::Write { .. } => "write",
             Case::Index { .. } => "index",
+            Case::EvaluateIndexed { .. } => "evaluate_indexed",
             Case::Program { .. } => "the program",
         }
     }
@@ -91,6 +99,15 @@ impl Case {
 
     pub fn index(book: &Book, starts: usize, entries: usize) -> Case {
         Case::Index { book: book.clone(), starts, entries }
+    }
+
+    pub fn evaluate_indexed(book: &Book, open_values: &[u8], lent: FollowingLengths) -> Case {
+        Case::EvaluateIndexed { book: book.clone(), open_values: open_values.to_vec(), lent }
+    }
+
+    /// An evaluation that follows the index, with all slices of their lengths.
+    pub fn follow(book: &Book, open_values: &[u8]) -> Case {
+        Case::evaluate_indexed(book, open_values, following::lengths(book, Written::all(book.n)))
     }
 
     pub fn verdict(text: &[u8]) -> Case {
@@ -145,6 +162,12 @@ impl Display for Case {
             Case::Index { book, starts, entries } => {
                 show_tables(out, book)?;
                 writeln!(out, "{starts} starts and {entries} entries")
+            }
+            Case::EvaluateIndexed { book, open_values, lent } => {
+                show_tables(out, book)?;
+                show_list(out, "open values", open_values)?;
+                writeln!(out, "written: {lent:?}")?;
+                show_as_text(out, book, &open_form(open_values))
             }
         }
     }

@@ -1,7 +1,7 @@
 //! The library with every lent slice against a guard page: once its end against the upper one, once its start against the lower.
 
 use super::pages::{Edge, Pages};
-use crate::calls::{Calls, Library, Tables, TablesToFill};
+use crate::calls::{Calls, FollowingSlices, Library, Tables, TablesToFill};
 use std::cell::{Cell, RefCell};
 
 #[derive(Default)]
@@ -43,6 +43,7 @@ struct SlicePages {
     page: Pages,
     starts: Pages,
     entries: Pages,
+    counts: Pages,
 }
 
 /// What the slices that a reading fills hold.
@@ -197,6 +198,35 @@ impl Calls for GuardedLibrary {
         entries.copy_from_slice(&built_entries);
         answer
     }
+
+    fn evaluate_indexed(&self, tables: Tables, open_values: &[u8], slices: FollowingSlices) -> u64 {
+        let (answer, made_values, made_words) = self.at_both_edges(|pages, edge| {
+            let tables = pages.tables.lend_to_read(&tables, edge);
+            let open_values = pages.open_values.lend_to_read(open_values, edge);
+            let values = pages.values.lend_to_write(slices.values, edge);
+            let levels = pages.levels.lend_to_write(slices.levels, edge);
+            let work = pages.work.lend_to_write(slices.work, edge);
+            let starts = pages.starts.lend_to_write(slices.starts, edge);
+            let entries = pages.entries.lend_to_write(slices.entries, edge);
+            let counts = pages.counts.lend_to_write(slices.counts, edge);
+            let lent = FollowingSlices { values, levels, work, starts, entries, counts };
+            follow_and_see(tables, open_values, lent)
+        });
+        slices.values.copy_from_slice(&made_values);
+        for (slice, made) in [slices.levels, slices.work, slices.starts, slices.entries, slices.counts].into_iter().zip(made_words)
+        {
+            slice.copy_from_slice(&made);
+        }
+        answer
+    }
+}
+
+/// The answer, and what the values, and then the other slices, hold afterwards.
+fn follow_and_see(tables: Tables, open_values: &[u8], slices: FollowingSlices) -> (u64, Vec<u8>, [Vec<u16>; 5]) {
+    let FollowingSlices { values, levels, work, starts, entries, counts } = slices;
+    let again = FollowingSlices { values, levels, work, starts, entries, counts };
+    let answer = Library.evaluate_indexed(tables, open_values, again);
+    (answer, values.to_vec(), [levels, work, starts, entries, counts].map(|slice| slice.to_vec()))
 }
 
 fn read_and_see(text: &[u8], mut tables: TablesToFill, answer: &mut [u32]) -> (u32, Contents) {

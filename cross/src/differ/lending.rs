@@ -4,7 +4,7 @@ use super::{buffer::Buffer, case::Case};
 use crate::random::Random;
 use crate::{
     book::{Book, Lengths},
-    calls::{Tables, TablesToFill},
+    calls::{FollowingSlices, Tables, TablesToFill},
 };
 
 /// The seven tables of a book.
@@ -106,6 +106,7 @@ pub struct Lending {
     pub page: Buffer<u8>,
     pub starts: Buffer<u16>,
     pub entries: Buffer<u16>,
+    pub counts: Buffer<u16>,
 }
 
 impl Lending {
@@ -153,6 +154,18 @@ impl Lending {
                 entries: Buffer::arbitrary(*entries, random),
                 ..nothing
             },
+            // In the order of the plain maker's slices, so that with the same noise these hold the same.
+            Case::EvaluateIndexed { book, open_values, lent } => Lending {
+                tables: TableBuffers::holding(book, random),
+                open_values: Buffer::holding(open_values, random),
+                values: Buffer::arbitrary(lent.values, random),
+                levels: Buffer::arbitrary(lent.levels, random),
+                work: Buffer::arbitrary(lent.work, random),
+                starts: Buffer::arbitrary(lent.starts, random),
+                entries: Buffer::arbitrary(lent.entries, random),
+                counts: Buffer::arbitrary(lent.counts, random),
+                ..nothing
+            },
         }
     }
 
@@ -168,6 +181,7 @@ impl Lending {
             page: Buffer::none(),
             starts: Buffer::none(),
             entries: Buffer::none(),
+            counts: Buffer::none(),
         }
     }
 
@@ -187,20 +201,49 @@ impl Lending {
         (self.text.lent(), tables, self.answer.lent_mut())
     }
 
+    /// The tables, the open values and the slices to be written, of an evaluation that follows the index.
+    pub fn to_follow(&mut self, n: usize) -> (Tables<'_>, &[u8], FollowingSlices<'_>) {
+        let slices = FollowingSlices {
+            values: self.values.lent_mut(),
+            levels: self.levels.lent_mut(),
+            work: self.work.lent_mut(),
+            starts: self.starts.lent_mut(),
+            entries: self.entries.lent_mut(),
+            counts: self.counts.lent_mut(),
+        };
+        (self.tables.to_read(n), self.open_values.lent(), slices)
+    }
+
     /// The first slice whose buffer differs, and where.
     pub fn first_difference(&self, found: &Lending) -> Option<String> {
         let others = [
             ("text", self.text.first_difference(&found.text)),
             ("open values", self.open_values.first_difference(&found.open_values)),
-            ("values", self.values.first_difference(&found.values)),
-            ("levels", self.levels.first_difference(&found.levels)),
-            ("work", self.work.first_difference(&found.work)),
             ("answer", self.answer.first_difference(&found.answer)),
             ("page", self.page.first_difference(&found.page)),
             ("starts", self.starts.first_difference(&found.starts)),
             ("entries", self.entries.first_difference(&found.entries)),
+            ("counts", self.counts.first_difference(&found.counts)),
         ];
-        let all = self.tables.differences(&found.tables).into_iter().chain(others);
-        all.into_iter().find_map(|(name, difference)| difference.map(|place| format!("{name}{place}")))
+        let all = self.tables.differences(&found.tables).into_iter().chain(self.of_both_makers(found)).chain(others);
+        shown(all)
     }
+
+    /// The first of the slices that both makers write, the plain one and the other, whose buffer differs, and where.
+    pub fn first_difference_of_makers(&self, found: &Lending) -> Option<String> {
+        shown(self.of_both_makers(found))
+    }
+
+    fn of_both_makers(&self, found: &Lending) -> [(&'static str, Option<String>); 3] {
+        [
+            ("values", self.values.first_difference(&found.values)),
+            ("levels", self.levels.first_difference(&found.levels)),
+            ("work", self.work.first_difference(&found.work)),
+        ]
+    }
+}
+
+/// The first of these slices that has a difference.
+fn shown(differences: impl IntoIterator<Item = (&'static str, Option<String>)>) -> Option<String> {
+    differences.into_iter().find_map(|(name, difference)| difference.map(|place| format!("{name}{place}")))
 }

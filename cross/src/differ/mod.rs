@@ -8,6 +8,7 @@ pub mod case;
 mod claims;
 mod damage;
 pub mod families;
+mod following;
 mod forms;
 pub mod guarded;
 mod indexed;

@@ -2,7 +2,7 @@
 
 use super::{case::Case, lending::Lending};
 use crate::{
-    book::{BookText, Indexed, Made, Read, State, Verdict},
+    book::{BookText, Claim, Followed, Indexed, Made, MadeIndexed, Read, State, Verdict},
     calls::PAGE_SIZE,
     solver::Solver,
 };
@@ -14,7 +14,7 @@ const NO_ANSWER: u32 = 0xFFFF_FFFF;
 #[derive(PartialEq)]
 pub enum Answer {
     Verdict(u32),
-    /// Rounds and verdict, as the C call on an evaluation packs them.
+    /// Rounds and verdict, as the C calls of both makers pack them.
     Made(u64),
     /// Length and verdict, as the C call on a writing packs them.
     Written(u64),
@@ -75,6 +75,14 @@ impl Outcome {
         let slice = self.after.first_difference(&found.after)?;
         Some(format!("expected and found {}, but afterwards {slice}", self.answer))
     }
+
+    /// How what one maker does differs from this, which is what the other did with the same tables and setting.
+    pub fn difference_of_makers(&self, found: &Outcome) -> Option<String> {
+        if self.answer != found.answer {
+            return Some(format!("one answers {}, the other {}", self.answer, found.answer));
+        }
+        self.after.first_difference_of_makers(&found.after)
+    }
 }
 
 /// What the solver says of a case.
@@ -98,6 +106,9 @@ pub fn expected(solver: &Solver, case: &Case, before: &Lending) -> Outcome {
         }
         Case::Write { book, values, levels, room } => after_writing(&solver.write(book, values, levels, *room), &mut after),
         Case::Index { book, starts, entries } => after_indexing(&solver.index(book, *starts, *entries), &mut after),
+        Case::EvaluateIndexed { book, open_values, lent } => {
+            after_following(&solver.evaluate_indexed(book, open_values, lent), &mut after)
+        }
     };
     Outcome { answer, after }
 }
@@ -146,4 +157,16 @@ fn after_indexing(indexed: &Indexed, after: &mut Lending) -> Answer {
         after.entries.write(&index.entries);
     }
     Answer::Verdict(indexed.verdict.packed())
+}
+
+fn after_following(made: &MadeIndexed, after: &mut Lending) -> Answer {
+    if let Some(Followed { claim: Claim { values, levels }, work, index, counts }) = &made.written {
+        after.values.write(values);
+        after.levels.write(levels);
+        after.work.write(work);
+        after.starts.write(&index.starts);
+        after.entries.write(&index.entries);
+        after.counts.write(counts);
+    }
+    Answer::Made(u64::from(made.rounds) << 32 | u64::from(made.verdict.packed()))
 }

@@ -56,24 +56,35 @@ impl Pages {
         }
     }
 
-    /// Puts the content against an edge and answers where it begins. With an empty slice there is nothing that may be touched.
-    fn place<T: Copy>(&mut self, content: &[T], edge: Edge) -> *mut T {
+    /// Where content begins that stands against an edge. Pages are aligned for every type here, and so is each place a whole number of
+    /// entries below the upper edge.
+    fn start<T>(&self, content: &[T], edge: Edge) -> *mut T {
         let bytes = size_of_val(content);
         assert!(bytes <= LENGTH, "a slice of {bytes} bytes");
         let start = match edge {
             Edge::Lower => self.between(),
             Edge::Upper => self.between().wrapping_byte_add(LENGTH - bytes),
         };
-        self.allow(if bytes == 0 { system::NO_ACCESS } else { system::READ_AND_WRITE });
-        // Pages are aligned for every type here, and so is each place a whole number of entries below the upper edge.
-        unsafe { start.cast::<T>().copy_from_nonoverlapping(content.as_ptr(), content.len()) };
         start.cast()
     }
 
-    /// A slice that whoever writes to it is ended for.
-    pub fn lend_to_read<T: Copy>(&mut self, content: &[T], edge: Edge) -> &[T] {
-        let start = self.place(content, edge);
-        self.allow(if content.is_empty() { system::NO_ACCESS } else { system::READ });
+    /// Puts the content against an edge and answers where it begins. With an empty slice there is nothing that may be touched.
+    fn place<T: Copy>(&mut self, content: &[T], edge: Edge) -> *mut T {
+        let start = self.start(content, edge);
+        self.allow(if content.is_empty() { system::NO_ACCESS } else { system::READ_AND_WRITE });
+        unsafe { start.copy_from_nonoverlapping(content.as_ptr(), content.len()) };
+        start
+    }
+
+    /// A slice that whoever writes to it is ended for. Often the same tables are lent again and stand there still; to let them be put
+    /// there anew is what takes most of a run's time.
+    pub fn lend_to_read<T: Copy + PartialEq>(&mut self, content: &[T], edge: Edge) -> &[T] {
+        let start = self.start(content, edge);
+        let may_stand = self.access == system::READ && !content.is_empty();
+        if !may_stand || unsafe { slice::from_raw_parts(start, content.len()) } != content {
+            self.place(content, edge);
+            self.allow(if content.is_empty() { system::NO_ACCESS } else { system::READ });
+        }
         unsafe { slice::from_raw_parts(start, content.len()) }
     }
 

@@ -13,7 +13,10 @@ use crate::{
     calls::PAGE_SIZE,
     solver::Solver,
 };
-use std::{collections::BTreeMap, time::Duration};
+use std::{
+    collections::{BTreeMap, HashSet},
+    time::Duration,
+};
 
 /// A difference, with the smallest case that shows it.
 pub struct Found {
@@ -22,6 +25,12 @@ pub struct Found {
 }
 
 pub type Compared = Result<(), Box<Found>>;
+
+/// What the solver answers in a case, and what each side that has the call did, which is the same.
+pub(super) struct Held {
+    pub answer: Answer,
+    pub outcomes: Vec<Option<Outcome>>,
+}
 
 pub struct Session<'a> {
     pub solver: Solver,
@@ -33,6 +42,8 @@ pub struct Session<'a> {
     pub cases: usize,
     /// How many of them had each number as their verdict.
     pub numbers: BTreeMap<u32, usize>,
+    /// The books with their settings of which both makers made the model, each as a hash, so that none counts twice.
+    pub settings: HashSet<u64>,
     /// How long the smallest case is looked for that shows a difference.
     pub patience: Duration,
     /// The tables that were indexed last.
@@ -42,8 +53,8 @@ pub struct Session<'a> {
 impl<'a> Session<'a> {
     pub fn new(solver: Solver, sides: &[Side<'a>], random: Random, count: usize) -> Session<'a> {
         let patience = Duration::from_secs(20);
-        let (sides, numbers) = (sides.to_vec(), BTreeMap::new());
-        Session { solver, sides, random, count, cases: 0, numbers, patience, indexed: None }
+        let (sides, numbers, settings) = (sides.to_vec(), BTreeMap::new(), HashSet::new());
+        Session { solver, sides, random, count, cases: 0, numbers, settings, patience, indexed: None }
     }
 
     /// Holds every side that has the call against the solver.
@@ -52,32 +63,44 @@ impl<'a> Session<'a> {
     }
 
     /// What the solver answers, if every side answers and does the same. Tables that are lent to a call are indexed too, unless those
-    /// before were the same. `random` has no part in that, so that the families have the cases that they had before there was an index.
+    /// before were the same, and some of them are given to both makers, as is what the program reads; what the plain maker is asked, the
+    /// other is always asked too. `random` has no part in that, so that the families have the cases that they had before there were
+    /// these calls.
     fn solve(&mut self, case: &Case) -> Result<Answer, Box<Found>> {
         let noise = self.random.draw();
-        let answer = self.hold(case, noise)?;
+        let Held { answer, outcomes } = self.hold(case, noise)?;
         match case {
-            Case::Check { book, .. } | Case::Evaluate { book, .. } | Case::Write { book, .. }
-                if self.indexed.as_ref() != Some(book) =>
-            {
+            Case::Check { book, values, .. } | Case::Write { book, values, .. } if self.indexed.as_ref() != Some(book) => {
                 self.index(book, noise)?;
+                self.make_sometimes(book, values, noise)?;
                 self.indexed = Some(book.clone());
             }
+            Case::Evaluate { book, open_values, written } => {
+                if self.indexed.as_ref() != Some(book) {
+                    self.index(book, noise)?;
+                    self.follow_beside(book, open_values, *written, noise)?;
+                    self.indexed = Some(book.clone());
+                }
+                self.follow(book, open_values, *written, &outcomes, noise)?;
+            }
+            Case::Index { book, starts, .. } => self.make_sometimes(book, &vec![0; starts / 2], noise)?,
+            Case::Program { text } => self.make_of_text(text, noise)?,
             _ => {}
         }
         Ok(answer)
     }
 
     /// What the solver answers in this one case, with slices to be written that hold what `noise` gives.
-    pub(super) fn hold(&mut self, case: &Case, noise: u64) -> Result<Answer, Box<Found>> {
+    pub(super) fn hold(&mut self, case: &Case, noise: u64) -> Result<Held, Box<Found>> {
         let before = Lending::of(case, noise);
         let expected = expected(&self.solver, case, &before);
         self.cases += 1;
         if let Some(verdict) = expected.answer.verdict() {
             *self.numbers.entry(verdict.number).or_default() += 1;
         }
-        if self.difference(case, &before, &expected).is_none() {
-            return Ok(expected.answer);
+        let outcomes: Vec<Option<Outcome>> = self.sides.iter().map(|side| side.outcome(case, &before)).collect();
+        if self.difference(case, &expected, &outcomes).is_none() {
+            return Ok(Held { answer: expected.answer, outcomes });
         }
         let case = smallest(case.clone(), self.patience, |smaller| self.difference_on(smaller, noise).is_some());
         let what = self.difference_on(&case, noise).expect("the smallest case differs too");
@@ -85,16 +108,17 @@ impl<'a> Session<'a> {
     }
 
     /// How some side differs from what is expected, if one does.
-    fn difference(&self, case: &Case, before: &Lending, expected: &Outcome) -> Option<String> {
-        self.sides.iter().find_map(|side| {
-            let difference = expected.difference(&side.outcome(case, before)?)?;
+    fn difference(&self, case: &Case, expected: &Outcome, outcomes: &[Option<Outcome>]) -> Option<String> {
+        self.sides.iter().zip(outcomes).find_map(|(side, outcome)| {
+            let difference = expected.difference(outcome.as_ref()?)?;
             Some(format!("{} by {}: {difference}", case.call(), side.name()))
         })
     }
 
     fn difference_on(&self, case: &Case, noise: u64) -> Option<String> {
         let before = Lending::of(case, noise);
-        self.difference(case, &before, &expected(&self.solver, case, &before))
+        let outcomes: Vec<Option<Outcome>> = self.sides.iter().map(|side| side.outcome(case, &before)).collect();
+        self.difference(case, &expected(&self.solver, case, &before), &outcomes)
     }
 
     /// The calls on a text but for its report: the verdict, the reading into tables of full size, and the check or the maker on what was read.
@@ -104,7 +128,7 @@ impl<'a> Session<'a> {
         self.what_was_read(&self.solver.read(text, &Lengths::FULL))
     }
 
-    /// The check of a claim that was read, or the maker for an open form.
+    /// The check of a claim that was read, or the makers for an open form.
     pub fn what_was_read(&mut self, read: &Read) -> Compared {
         match read.state {
             State::None => Ok(()),

@@ -28,13 +28,17 @@ impl Side<'_> {
 
     /// What this side does with a case, or nothing if it does not have the call.
     pub fn outcome(&self, case: &Case, before: &Lending) -> Option<Outcome> {
-        let mut after = before.clone();
-        let answer = match (self, case) {
-            (Side::Calls(calls), case) => answer_of_call(*calls, case, &mut after)?,
-            (Side::Program(program), Case::Program { text }) => Answer::Printed(printed(program, text)),
-            (Side::Program(_), _) => return None,
-        };
-        Some(Outcome { answer, after })
+        match (self, case) {
+            (Side::Calls(calls), case) => {
+                let mut after = before.clone();
+                let answer = answer_of_call(*calls, case, &mut after)?;
+                Some(Outcome { answer, after })
+            }
+            (Side::Program(program), Case::Program { text }) => {
+                Some(Outcome { answer: Answer::Printed(printed(program, text)), after: before.clone() })
+            }
+            (Side::Program(_), _) => None,
+        }
     }
 }
 
@@ -62,6 +66,10 @@ fn answer_of_call(calls: &dyn Calls, case: &Case, lent: &mut Lending) -> Option<
         Case::Index { book, .. } => {
             let tables = lent.tables.to_read(book.n);
             Some(Answer::Verdict(calls.index(tables, lent.starts.lent_mut(), lent.entries.lent_mut())))
+        }
+        Case::EvaluateIndexed { book, .. } => {
+            let (tables, open_values, slices) = lent.to_follow(book.n);
+            Some(Answer::Made(calls.evaluate_indexed(tables, open_values, slices)))
         }
         Case::Program { .. } => None,
     }

@@ -5,9 +5,9 @@ use super::{faults, satisfaction};
 use crate::book::Verdict;
 use crate::calls::Tables;
 
-const FALSE: u8 = 0;
-const TRUE: u8 = 1;
-const UNDECIDED: u8 = 2;
+pub const FALSE: u8 = 0;
+pub const TRUE: u8 = 1;
+pub const UNDECIDED: u8 = 2;
 
 /// Rounds and verdict.
 pub fn evaluate(t: Tables, open: &[u8], values: &mut [u8], levels: &mut [u16], work: &mut [u16]) -> (u32, Verdict) {
@@ -16,9 +16,8 @@ pub fn evaluate(t: Tables, open: &[u8], values: &mut [u8], levels: &mut [u16], w
         return (0, fault);
     }
     let defined = defined_atoms(&t);
-    let mut settings = open.iter().zip(&defined);
-    if let Some(atom) = settings.position(|(&value, &is)| value > u8::from(!is)) {
-        return (0, Verdict::refused(21, atom));
+    if let Some(fault) = of_setting(open, &defined) {
+        return (0, fault);
     }
     levels.fill(0);
     work.fill(0);
@@ -30,11 +29,21 @@ pub fn evaluate(t: Tables, open: &[u8], values: &mut [u8], levels: &mut [u16], w
     for (value, truth) in values.iter_mut().zip(stage.truth.chunks_exact(2)) {
         *value = truth[0];
     }
-    let verdict = match values.iter().position(|&value| value == UNDECIDED) {
+    (u32::from(rounds), of_model(&t, values))
+}
+
+/// Fault 21: a value that is not 0 or 1, or not 0 at a defined atom.
+pub fn of_setting(open: &[u8], defined: &[bool; 1_024]) -> Option<Verdict> {
+    let mut settings = open.iter().zip(defined);
+    settings.position(|(&value, &is)| value > u8::from(!is)).map(|atom| Verdict::refused(21, atom))
+}
+
+/// What comes of a model: fault 25 if it leaves an atom undecided, else what clauses and load lines say.
+pub fn of_model(t: &Tables, values: &[u8]) -> Verdict {
+    match values.iter().position(|&value| value == UNDECIDED) {
         Some(atom) => Verdict::refused(25, atom),
-        None => satisfaction::verdict(&t, values),
-    };
-    (u32::from(rounds), verdict)
+        None => satisfaction::verdict(t, values),
+    }
 }
 
 /// The literals that a round makes true. At most one of each atom.

@@ -1,13 +1,15 @@
-//! The seven calls in plain Rust, written for speed: what the benchmarks measure the proved library against.
+//! The eight calls in plain Rust, written for speed: what the benchmarks measure the proved library against.
 //!
 //! Nothing is allocated and nothing is unsafe. The check is linear, and the maker goes by rounds over all rules, as the library does,
-//! so that a ratio of times compares code with code. The reader reads a text once, into tables of its own, and copies the used parts
-//! out if the text is accepted. The writer counts the bytes of a text before it puts the first of them. The index is a counting sort
-//! within the two slices that it is built in.
+//! so that a ratio of times compares code with code; likewise the other maker follows the index from what one round decides to the
+//! next. The reader reads a text once, into tables of its own, and copies the used parts out if the text is accepted. The writer
+//! counts the bytes of a text before it puts the first of them. The index is a counting sort within the two slices that it is built
+//! in.
 
 mod check;
 mod evaluate;
 mod faults;
+mod following;
 mod indexing;
 mod lines;
 mod page;
@@ -20,7 +22,7 @@ mod tests;
 mod writer;
 
 use crate::book::{Lengths, State, Verdict};
-use crate::calls::{Calls, Tables, TablesToFill, PAGE_SIZE};
+use crate::calls::{Calls, FollowingSlices, Tables, TablesToFill, PAGE_SIZE};
 use page::Made;
 use reader::{FullTables, Used};
 
@@ -59,8 +61,7 @@ impl Calls for Fast {
     }
 
     fn evaluate(&self, tables: Tables, open_values: &[u8], values: &mut [u8], levels: &mut [u16], work: &mut [u16]) -> u64 {
-        let (rounds, verdict) = evaluate::evaluate(tables, open_values, values, levels, work);
-        u64::from(rounds) << 32 | u64::from(verdict.packed())
+        packed(evaluate::evaluate(tables, open_values, values, levels, work))
     }
 
     fn read(&self, text: &[u8], mut lent: TablesToFill, answer: &mut [u32]) -> u32 {
@@ -91,6 +92,15 @@ impl Calls for Fast {
     fn index(&self, tables: Tables, starts: &mut [u16], entries: &mut [u16]) -> u32 {
         indexing::index(tables, starts, entries).packed()
     }
+
+    fn evaluate_indexed(&self, tables: Tables, open_values: &[u8], slices: FollowingSlices) -> u64 {
+        packed(following::evaluate_indexed(tables, open_values, slices))
+    }
+}
+
+/// Rounds and verdict as the C calls of both makers hand them over.
+fn packed((rounds, verdict): (u32, Verdict)) -> u64 {
+    u64::from(rounds) << 32 | u64::from(verdict.packed())
 }
 
 /// What an accepted text comes to: its claim checked, or its open form evaluated, with what was made unless that was refused.

@@ -1,8 +1,8 @@
 //! `Fast` against the library: every answer and every slice whole, on random texts and tables, sound ones and others.
 
 use super::Fast;
-use crate::book::{Book, Verdict};
-use crate::calls::{Calls, Library, TablesToFill, TEXT_MAX};
+use crate::book::{Book, FollowingLengths, Verdict};
+use crate::calls::{Calls, FollowingSlices, Library, TablesToFill, TEXT_MAX};
 use crate::random::Random;
 use std::collections::BTreeSet;
 use std::time::{Duration, Instant};
@@ -230,7 +230,7 @@ fn open_values(book: &Book, random: &mut Random) -> Vec<u8> {
 #[test]
 fn tables_are_judged_alike() {
     let mut random = Random::new(3);
-    let mut met = BTreeSet::new();
+    let (mut met, mut met_following) = (BTreeSet::new(), BTreeSet::new());
     for _ in 0..60_000 {
         let book = book(&mut random);
         let open = open_values(&book, &mut random);
@@ -255,10 +255,16 @@ fn tables_are_judged_alike() {
         let lent = index_lengths(&book, &mut random);
         let indexed = [&Fast as &dyn Calls, &Library].map(|calls| indexed(calls, &book, lent));
         assert_eq!(indexed[0], indexed[1], "{book:?}, {lent:?}");
+        let lent = following_lengths(&book, &mut random);
+        let followed = [&Fast as &dyn Calls, &Library].map(|calls| followed(calls, &book, &open, lent));
+        assert_eq!(followed[0], followed[1], "{book:?} {open:?}, {lent:?}");
         met.extend([number(answer as u32), number(checked), number(written[0].0 as u32), number(indexed[0].0)]);
+        met_following.insert(number(followed[0].0 as u32));
     }
     let all = [0].into_iter().chain(11..=17).chain(21..=27).chain(31..=33);
     assert_eq!(met, all.collect(), "not every number was met");
+    let all = [0, 21, 31, 33].into_iter().chain(11..=17).chain(25..=27);
+    assert_eq!(met_following, all.collect(), "not every number was met by the maker that follows the index");
 }
 
 /// What the writer answers, and all that a buffer of this length then holds.
@@ -273,6 +279,36 @@ fn index_lengths(book: &Book, random: &mut Random) -> (usize, usize) {
     let entries: usize = book.rules.chunks_exact(3).map(|row| usize::from(row[2])).sum();
     let mut near = |length: usize| (length + random.pick(&[1, 1, 1, 1, 1, 0, 2])).saturating_sub(1);
     (near(2 * book.n + 1), near(entries))
+}
+
+/// Those that the maker is to be lent which follows the index, rarely one more or less of either.
+fn following_lengths(book: &Book, random: &mut Random) -> FollowingLengths {
+    let exact = exact_lengths(book);
+    let mut near = |length: usize| if random.one_in(40) { (length + 2 * random.below(2)).saturating_sub(1) } else { length };
+    FollowingLengths {
+        values: near(exact.values),
+        levels: near(exact.levels),
+        work: near(exact.work),
+        starts: near(exact.starts),
+        entries: near(exact.entries),
+        counts: near(exact.counts),
+    }
+}
+
+fn exact_lengths(book: &Book) -> FollowingLengths {
+    let (n, counts) = (book.n, book.rules.len() / 3);
+    let entries = book.rules.chunks_exact(3).map(|row| usize::from(row[2])).sum();
+    FollowingLengths { values: n, levels: n, work: n, starts: 2 * n + 1, entries, counts }
+}
+
+/// What that maker answers, and all that slices of these lengths then hold.
+fn followed(calls: &dyn Calls, book: &Book, open: &[u8], lent: FollowingLengths) -> (u64, Vec<u8>, [Vec<u16>; 5]) {
+    let mut values = vec![5; lent.values];
+    let mut words = [lent.levels, lent.work, lent.starts, lent.entries, lent.counts].map(|length| vec![7; length]);
+    let [levels, work, starts, entries, counts] = &mut words;
+    let slices = FollowingSlices { values: &mut values, levels, work, starts, entries, counts };
+    let answer = calls.evaluate_indexed(book.tables(), open, slices);
+    (answer, values, words)
 }
 
 /// What the index is answered, and all that slices of these lengths then hold.
@@ -292,6 +328,7 @@ fn rows_that_share_all_literals_are_judged_at_once() {
             let begun = Instant::now();
             assert_eq!(written(calls, &book, &[0], &[0], TEXT_MAX).0, 32 << 16);
             assert_eq!(indexed(calls, &book, (3, 16_384)).0, 33 << 16);
+            assert_eq!(followed(calls, &book, &[0], FollowingLengths { entries: 16_384, ..exact_lengths(&book) }).0, 33 << 16);
             begun.elapsed()
         };
         let least = (0..20).map(|_| time()).min();
@@ -337,10 +374,12 @@ fn sizes_are_judged_alike() {
         }
         let indexed = [&Fast as &dyn Calls, &Library].map(|calls| indexed(calls, &book, (2_049, 0)));
         assert_eq!(indexed[0], indexed[1]);
+        let followed = [&Fast as &dyn Calls, &Library].map(|calls| followed(calls, &book, &[0; 1_024], exact_lengths(&full)));
+        assert_eq!(followed[0], followed[1]);
     }
 }
 
-/// The limit of 33, and 1,024 atoms.
+/// The limit of 33, and 1,024 atoms, for the index and for the maker that follows it.
 #[test]
 fn full_indexes_are_built_alike() {
     let mut random = Random::new(4);
@@ -350,6 +389,11 @@ fn full_indexes_are_built_alike() {
         let book = Book { rules, literals, ..Book::of_atoms(1_024) };
         let indexed = [&Fast as &dyn Calls, &Library].map(|calls| indexed(calls, &book, (2_049, usize::from(rows) * count)));
         assert_eq!(indexed[0], indexed[1]);
-        assert_eq!(number(indexed[0].0), if usize::from(rows) * count > 16_384 { 33 } else { 0 });
+        let too_long = usize::from(rows) * count > 16_384;
+        assert_eq!(number(indexed[0].0), if too_long { 33 } else { 0 });
+        let lent = exact_lengths(&book);
+        let followed = [&Fast as &dyn Calls, &Library].map(|calls| followed(calls, &book, &[0; 1_024], lent));
+        assert_eq!(followed[0], followed[1]);
+        assert_eq!(number(followed[0].0 as u32) == 33, too_long);
     }
 }

@@ -41,10 +41,27 @@ pub enum Fault {
     LongerIndexSlicesTaken,
     IndexLengthsAs17,
     StartsClearedByARefusal,
+    RepeatedLiteralLoweredOnce,
+    RepeatedLiteralCountedOnce,
+    NotFalseCounted,
+    UndecidedCountedAsTrue,
+    CountsOneStageBehind,
+    HeadMadeTrueWithItsBody,
+    FoundedMarksNotRenewed,
+    WorkLeftAsTheQueue,
+    IndexLeftUnwritten,
+    IndexOfAcceptedBooksAlone,
+    IndexBuiltBeforeTheSetting,
+    SettingBeforeIndexSize,
+    FollowedSizeBeforeMarks,
+    CountsLengthAfterMarks,
+    CountsLengthAs33,
+    CountsOneRowShortTaken,
+    CountsOneRowLongTaken,
 }
 
 impl Fault {
-    pub const ALL: [Fault; 38] = [
+    pub const ALL: [Fault; 55] = [
         Fault::OrderBeforeLimits,
         Fault::FullTableRefused,
         Fault::EmptyRowPastTheEnd,
@@ -83,7 +100,29 @@ impl Fault {
         Fault::LongerIndexSlicesTaken,
         Fault::IndexLengthsAs17,
         Fault::StartsClearedByARefusal,
+        Fault::RepeatedLiteralLoweredOnce,
+        Fault::RepeatedLiteralCountedOnce,
+        Fault::NotFalseCounted,
+        Fault::UndecidedCountedAsTrue,
+        Fault::CountsOneStageBehind,
+        Fault::HeadMadeTrueWithItsBody,
+        Fault::FoundedMarksNotRenewed,
+        Fault::WorkLeftAsTheQueue,
+        Fault::IndexLeftUnwritten,
+        Fault::IndexOfAcceptedBooksAlone,
+        Fault::IndexBuiltBeforeTheSetting,
+        Fault::SettingBeforeIndexSize,
+        Fault::FollowedSizeBeforeMarks,
+        Fault::CountsLengthAfterMarks,
+        Fault::CountsLengthAs33,
+        Fault::CountsOneRowShortTaken,
+        Fault::CountsOneRowLongTaken,
     ];
+
+    /// Whether it is one of the rounds of the maker that follows the index, which the plain maker does not have.
+    pub(super) fn of_following_rounds(self) -> bool {
+        matches!(self, Fault::HeadMadeTrueWithItsBody | Fault::FoundedMarksNotRenewed)
+    }
 
     pub fn describe(self) -> &'static str {
         match self {
@@ -127,6 +166,27 @@ impl Fault {
             Fault::LongerIndexSlicesTaken => "An index is built at the front of slices that are longer.",
             Fault::IndexLengthsAs17 => "Slices that have not the lengths of the index are 17.",
             Fault::StartsClearedByARefusal => "The starts are cleared before 31 and 33 are looked for.",
+            Fault::RepeatedLiteralLoweredOnce => {
+                "A literal that becomes true lowers the count of a rule once, however often the body repeats it."
+            }
+            Fault::RepeatedLiteralCountedOnce => "A literal that a body repeats counts once among those that are not true.",
+            Fault::NotFalseCounted => "Counts are of the literals that are not false.",
+            Fault::UndecidedCountedAsTrue => "Undecided literals are not counted among those that are not true.",
+            Fault::CountsOneStageBehind => "Counts are those of the stage before the model.",
+            Fault::HeadMadeTrueWithItsBody => {
+                "The maker that follows the index makes a head true in the round that makes its body true."
+            }
+            Fault::FoundedMarksNotRenewed => "The maker that follows the index looks for unfounded atoms in its first round alone.",
+            Fault::WorkLeftAsTheQueue => "The maker that follows the index leaves the atoms that it decided in work.",
+            Fault::IndexLeftUnwritten => "The maker that follows the index leaves no index.",
+            Fault::IndexOfAcceptedBooksAlone => "25 to 27 leave no index and no counts.",
+            Fault::IndexBuiltBeforeTheSetting => "The index is built before 21 is looked for.",
+            Fault::SettingBeforeIndexSize => "The maker that follows the index looks for 33 after 21, not before it.",
+            Fault::FollowedSizeBeforeMarks => "The maker that follows the index looks for 33 before 31, not after it.",
+            Fault::CountsLengthAfterMarks => "The length of the counts is looked at after 31, not before it.",
+            Fault::CountsLengthAs33 => "Counts that are not one for each rule row are 33.",
+            Fault::CountsOneRowShortTaken => "Counts may be one row short.",
+            Fault::CountsOneRowLongTaken => "Counts may be one row longer than the rules.",
         }
     }
 }

@@ -23,7 +23,7 @@ impl Solver {
     }
 
     /// Bodies are counted by their counts, as thousands of them may share their literals.
-    fn index_size_refusal(&self, book: &Book, starts: usize, entries: usize) -> Option<Verdict> {
+    pub(super) fn index_size_refusal(&self, book: &Book, starts: usize, entries: usize) -> Option<Verdict> {
         let total = self.body_literals(book);
         let counted = if self.has(Fault::SharedBodiesCountedOnce) { used_by_bodies(book) } else { total };
         let most = if self.has(Fault::FullIndexRefused) { limits::LITERALS - 1 } else { limits::LITERALS };
@@ -46,7 +46,7 @@ impl Solver {
     }
 
     /// Literals from the lowest on, each with its rows from the lowest on: a literal starts where the lower ones end.
-    fn index_of(&self, book: &Book) -> Index {
+    pub(super) fn index_of(&self, book: &Book) -> Index {
         let mut occurrences = self.occurrences(book);
         if self.has(Fault::RowsFalling) {
             occurrences.sort_by_key(|&(literal, row)| (literal, Reverse(row)));

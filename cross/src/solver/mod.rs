@@ -8,6 +8,7 @@ mod alternating;
 mod claim;
 mod decoded;
 mod fault;
+mod following;
 mod grammar;
 mod indexing;
 mod limits;
@@ -30,7 +31,7 @@ use crate::book::Book;
 use decoded::Decoded;
 
 /// The solver. Its calls stand with the rules they follow: `read` in `reading`, `check` in `claim`, `evaluate` in `maker`,
-/// `verdict` and `report` in `page`, `write` in `writing`, and `index` in `indexing`.
+/// `verdict` and `report` in `page`, `write` in `writing`, `index` in `indexing`, and `evaluate_indexed` in `following`.
 #[derive(Clone, Copy, Default)]
 pub struct Solver {
     pub fault: Option<Fault>,

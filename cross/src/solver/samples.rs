@@ -1,7 +1,7 @@
 //! The paper's sample calls, the samples to be run, and what else its sentences say of texts and tables.
 
 use super::{Fault, Solver};
-use crate::book::{Book, Indexed, Lengths, Made, Read, State, Verdict};
+use crate::book::{Book, FollowingLengths, Indexed, Lengths, Made, MadeIndexed, Read, State, Verdict};
 
 const SOLVER: Solver = Solver { fault: None };
 
@@ -284,6 +284,8 @@ fn refused_after(changes: &[Change]) {
         assert_eq!(SOLVER.check(&book, &[0, 0, 0, 1], &[0, 1, 1, 2]), refused, "{book:?}");
         assert_eq!(SOLVER.evaluate(&book, &[0; 4], 4, 4, 4), Made { verdict: refused, rounds: 0, written: None }, "{book:?}");
         assert_eq!(SOLVER.index(&book, 9, 4), Indexed::refused(refused), "{book:?}");
+        let lent = FollowingLengths { values: 4, levels: 4, work: 4, starts: 9, entries: 4, counts: book.rules.len() / 3 };
+        assert_eq!(SOLVER.evaluate_indexed(&book, &[0; 4], &lent), MadeIndexed::refused(refused), "{book:?}");
     }
 }
 
@@ -456,6 +458,29 @@ fn spoilt_by(fault: Fault, solver: &Solver) -> String {
         Fault::SharedBodiesCountedOnce => {
             return indexed(solver, Book { rules: vec![0, 0, 8_192, 0, 0, 8_192, 0, 0, 1], ..Book::default() }, 3, 16_385)
         }
+        Fault::RepeatedLiteralLoweredOnce => return followed(solver, "(atoms 2)\n(rule 0)\n(rule 1 0 0)\n", |_| {}),
+        Fault::RepeatedLiteralCountedOnce | Fault::NotFalseCounted => return followed(solver, "(atoms 2)\n(rule 1 0 0)\n", |_| {}),
+        Fault::CountsOneStageBehind => return followed(solver, "(atoms 1)\n(rule 0)\n(rule 0 0)\n", |_| {}),
+        Fault::HeadMadeTrueWithItsBody => return followed(solver, "(atoms 2)\n(rule 0)\n(rule 1 0)\n", |_| {}),
+        Fault::FoundedMarksNotRenewed => return followed(solver, "(atoms 2)\n(rule 0)\n(rule 1 (not 0))\n", |_| {}),
+        Fault::WorkLeftAsTheQueue | Fault::IndexLeftUnwritten => return followed(solver, "(atoms 2)\n(rule 1)\n", |_| {}),
+        Fault::UndecidedCountedAsTrue | Fault::IndexOfAcceptedBooksAlone => {
+            return followed(solver, "(atoms 1)\n(rule 0 (not 0))\n", |_| {})
+        }
+        Fault::IndexBuiltBeforeTheSetting => return followed(solver, "(atoms 1)\n", |lent| lent.open_values[0] = 2),
+        Fault::SettingBeforeIndexSize => {
+            return followed(solver, "(atoms 1)\n", |lent| (lent.open_values[0], lent.lengths.starts) = (2, 0))
+        }
+        Fault::FollowedSizeBeforeMarks => {
+            return followed(solver, "(atoms 1)\n", |lent| (lent.book.marks[0], lent.lengths.starts) = (2, 0))
+        }
+        Fault::CountsLengthAfterMarks => {
+            return followed(solver, "(atoms 1)\n", |lent| (lent.book.marks[0], lent.lengths.counts) = (2, 1))
+        }
+        Fault::CountsLengthAs33 | Fault::CountsOneRowLongTaken => {
+            return followed(solver, "(atoms 1)\n(rule 0)\n", |lent| lent.lengths.counts = 2)
+        }
+        Fault::CountsOneRowShortTaken => return followed(solver, "(atoms 1)\n(rule 0)\n", |lent| lent.lengths.counts = 0),
     };
     solver.report(text.as_bytes()).escape_ascii().to_string()
 }
@@ -475,6 +500,23 @@ fn written(solver: &Solver, book: Book, value: u8, room: usize) -> String {
 fn indexed(solver: &Solver, book: Book, starts: usize, entries: usize) -> String {
     let marks = if book.marks.is_empty() { vec![0] } else { book.marks };
     format!("{:?}", solver.index(&Book { n: 1, literals: vec![0; 8_192], marks, ..book }, starts, entries))
+}
+
+/// What is lent to the maker that follows the index.
+struct LentToFollow {
+    book: Book,
+    open_values: Vec<u8>,
+    lengths: FollowingLengths,
+}
+
+/// What that maker makes of a book with no open atom true, lent what it should be and then changed.
+fn followed(solver: &Solver, lines: &str, change: fn(&mut LentToFollow)) -> String {
+    let Read { book, values: open_values, .. } = SOLVER.read(format!("{lines}(open)\n").as_bytes(), &Lengths::FULL);
+    let (n, counts) = (book.n, book.rules.len() / 3);
+    let lengths = FollowingLengths { values: n, levels: n, work: n, starts: 2 * n + 1, entries: book.literals.len(), counts };
+    let mut lent = LentToFollow { book, open_values, lengths };
+    change(&mut lent);
+    format!("{:?}", solver.evaluate_indexed(&lent.book, &lent.open_values, &lent.lengths))
 }
 
 /// Each deliberate fault shows in a call that is right without it.

@@ -20,6 +20,15 @@ impl Stages {
         &self.stages[self.closure_number()]
     }
 
+    pub fn first(&self) -> &Stage {
+        &self.stages[0]
+    }
+
+    /// The stage before the last, or the only one.
+    pub fn before_the_last(&self) -> &Stage {
+        &self.stages[self.closure_number().saturating_sub(1)]
+    }
+
     /// The first stage that holds the atom, if one does.
     pub fn of_atom(&self, atom: usize) -> Option<usize> {
         self.stages.iter().position(|stage| stage[atom].is_some())
@@ -32,7 +41,9 @@ impl Solver {
         let mut stages: Vec<Stage> = vec![stage_0];
         loop {
             let present = &stages[stages.len() - 1];
-            let next = self.next_stage(book, present);
+            let founded_before = stages.len() > 1 && self.has(Fault::FoundedMarksNotRenewed);
+            let unfounded = if founded_before { vec![false; book.atoms()] } else { self.largest_unfounded_set(book, present) };
+            let next = self.next_stage(book, present, &unfounded);
             if next == *present {
                 return Stages { stages };
             }
@@ -40,11 +51,11 @@ impl Solver {
         }
     }
 
-    fn next_stage(&self, book: &Decoded, present: &Stage) -> Stage {
-        let unfounded = self.largest_unfounded_set(book, present);
+    fn next_stage(&self, book: &Decoded, present: &Stage, unfounded: &[bool]) -> Stage {
         let mut next = present.clone();
         for rule in &book.rules {
-            if rule.body.iter().all(|literal| held(*literal, present) == Some(true)) {
+            let looked_at = if self.has(Fault::HeadMadeTrueWithItsBody) { &next } else { present };
+            if rule.body.iter().all(|literal| held(*literal, looked_at) == Some(true)) {
                 hold(&mut next, rule.head, true);
             }
         }

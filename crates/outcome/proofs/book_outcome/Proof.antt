@@ -4,7 +4,7 @@ use borrow.Author.Needs.{needs}
 use Rattle.judging.specs.LentTables.{Rules, Literals, Clauses, Loads, LoadLiterals, Minutes, Marks, Values, Levels}
 use Rattle.forms.specs.Contents.{Contents, lentTables}
 use Rattle.booktext.specs.UsedParts.{usedIn}
-use Rattle.outcome.proofs.OutcomeLaws.{part-few, refused-comes, open-comes, claim-comes}
+use Rattle.outcome.proofs.OutcomeLaws.{parts-fit, refused-comes, open-comes, claim-comes}
 use Rattle.outcome.proofs.book_outcome.Statement.{statement}
 use Rattle.outcome.proofs.book_outcome.Tie as tie
 
@@ -117,7 +117,8 @@ enum-told-2 : tie.Need-enum-told-2
 enum-told-2 c = search needs
 
 evaluate-book-requires : tie.Need-evaluate-book-requires
-evaluate-book-requires c κs = let s = began (c .before .before .before .before) in (part-few (s .args .given .now) (s .pre .0 .few), s .pre .1)
+unfolding lentTables
+evaluate-book-requires c κs = let s = began (c .before .before .before .before) in (parts-fit (s .args .book) (tables s) (s .pre .0), s .pre .1)
 
 enum-told-3 : tie.Need-enum-told-3
 enum-told-3 c = search needs

@@ -45,7 +45,7 @@ fn compare_total(session: &mut Session, total: usize) -> Compared {
 }
 
 /// So many literals in bodies over one table, in few rows or in many, and empty rows between.
-fn book_of(random: &mut Random, total: usize) -> Book {
+pub(super) fn book_of(random: &mut Random, total: usize) -> Book {
     let n = random.pick(&[1, 2, 50, 1_024]);
     let least = total / 1_500;
     let most = least + random.pick(&[1, 50, 2_000]);

@@ -2,6 +2,7 @@
 
 mod books;
 mod claims;
+mod following;
 mod indexed;
 mod limits;
 mod minutes;
@@ -67,6 +68,7 @@ pub fn all(refusals: Vec<Sample>, examples: Vec<Vec<u8>>, claims: Vec<Vec<u8>>) 
         }),
         Family::new(17, "readings on books written back", readings::written::compare_all),
         Family::new(24, "readings on the index", readings::indexed::compare_all),
+        Family::new(26, "readings on the maker that follows the index", readings::following::compare_all),
         Family::new(18, "samples and examples written back", move |session| written::texts(session, &texts)),
         Family::new(22, "claims of textsamples written back", move |session| written::texts(session, &claims)),
         Family::new(23, "every number of minutes", minutes::compare_all),
@@ -87,6 +89,7 @@ pub fn all(refusals: Vec<Sample>, examples: Vec<Vec<u8>>, claims: Vec<Vec<u8>>) 
         Family::new(20, "unsound tables written back", written::unsound_tables),
         Family::new(21, "texts written back", written::random_texts),
         Family::new(25, "tables indexed", indexed::compare_all),
+        Family::new(27, "books for both makers", following::compare_all),
     ]
 }
 

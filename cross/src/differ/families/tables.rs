@@ -9,6 +9,7 @@ use crate::{
         case::{Case, Written},
         claims,
         session::{Compared, Session},
+        settings,
     },
 };
 
@@ -188,12 +189,9 @@ fn setting(random: &mut Random, book: &Book) -> Vec<u8> {
     let mut open_values: Vec<u8> = (0..slice_length(random, book.n)).map(|_| random.pick(&[0, 1])).collect();
     if random.one_in(8) {
         change(random, &mut open_values, |random| random.pick(&[1, 2, 255]));
-    } else {
-        let heads = book.rules.chunks_exact(3).map(|row| usize::from(row[0]));
-        let declared = (0..book.marks.len()).filter(|&atom| book.marks[atom] == 1);
-        heads.chain(declared).for_each(|atom| open_values.iter_mut().skip(atom).take(1).for_each(|value| *value = 0));
+        return open_values;
     }
-    open_values
+    settings::of_values(book, &open_values)
 }
 
 /// What was made, whole or damaged, or any claim if nothing was.

@@ -1,5 +1,6 @@
 //! The readings on the index: the rows of each literal, the lengths of both slices, the order of refusals, and what is too large.
 
+use super::order::{self, Refusal};
 use super::written::rows;
 use crate::{
     book::{Book, Index, Verdict},
@@ -114,41 +115,18 @@ fn lengths_of_slices(session: &mut Session) -> Compared {
     Ok(())
 }
 
-/// One fault of each number and where it is, for a book of two atoms with one row and one place of each kind; of 33 one for each reason.
-type Refusal = (u32, usize, fn(&mut Book, &mut (usize, usize)));
-
-const REFUSALS: [Refusal; 10] = [
-    (11, 0, |book, _| book.minutes.push(0)),
-    (12, 1, |book, _| book.rules.extend([0, 65_535, 1])),
-    (13, 1, |book, _| book.clauses.extend([65_535, 1])),
-    (14, 1, |book, _| book.loads.extend([0, 0, -1, 0])),
-    (15, 1, |book, _| book.literals.push(4)),
-    (16, 1, |book, _| (book.load_literals.push(4), book.minutes.push(0)).1),
+/// Of 33 one fault for each reason.
+const REFUSALS: [Refusal<(usize, usize)>; 4] = [
     (31, 1, |book, _| book.marks[1] = 2),
     (33, 0, |_, (starts, _)| *starts = 4),
     (33, 0, |_, (_, entries)| *entries = 2),
     (33, 0, |book, _| (book.literals.resize(10, 0), book.rules.extend([0, 1, 9].repeat(1_900))).1),
 ];
 
-/// Every set of these faults: the first in this order wins.
 fn refusals_in_order(session: &mut Session) -> Compared {
-    let sound = Book {
-        rules: vec![0, 0, 1],
-        literals: vec![3],
-        clauses: vec![0, 1],
-        loads: vec![0, 0, 0, 1],
-        load_literals: vec![2],
-        minutes: vec![-6],
-        ..Book::of_atoms(2)
-    };
-    for set in 0..1 << REFUSALS.len() {
-        let chosen = || REFUSALS.iter().enumerate().filter(|(place, _)| set >> place & 1 == 1).map(|(_, refusal)| refusal);
-        let (mut book, mut lent) = (sound.clone(), (5, 1));
-        chosen().for_each(|(_, _, spoil)| spoil(&mut book, &mut lent));
-        let verdict = chosen().next().map_or(Verdict::ACCEPTED, |&(number, position, _)| Verdict::refused(number, position));
-        session.stated("11 to 16, 31, 33, in this order", Case::index(&book, lent.0, lent.1), verdict)?;
-    }
-    Ok(())
+    order::every_set(&(5, 1), &REFUSALS, |book, (starts, entries), verdict| {
+        session.stated("11 to 16, 31, 33, in this order", Case::index(&book, starts, entries), verdict)
+    })
 }
 
 /// Marks that are bad or not N, in slices of the index's lengths, of others, and with bodies that are too long.

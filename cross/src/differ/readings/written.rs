@@ -1,5 +1,6 @@
 //! The readings on books written back: the bytes of each form, the order of refusals, and what is too large to be written.
 
+use super::order::{self, Refusal};
 use crate::{
     book::{Book, Claim, Verdict},
     calls::TEXT_MAX,
@@ -113,48 +114,19 @@ fn numbers(session: &mut Session) -> Compared {
     stated_text(session, "numbers have no leading zero, and a minus only where they are negative", &book, &claim, &text)
 }
 
-/// One fault of each number and where it is, for a book of two atoms with one row and one place of each kind.
-type Refusal = (u32, usize, fn(&mut Book, &mut Claim, &mut usize));
+const REFUSALS: [Refusal<(Claim, usize)>; 3] =
+    [(17, 0, |_, (claim, _)| claim.levels.push(0)), (31, 1, |book, _| book.marks[1] = 2), (32, 0, |_, (_, room)| *room = 20)];
 
-const REFUSALS: [Refusal; 9] = [
-    (11, 0, |book, _, _| book.minutes.push(0)),
-    (12, 1, |book, _, _| book.rules.extend([0, 65_535, 1])),
-    (13, 1, |book, _, _| book.clauses.extend([65_535, 1])),
-    (14, 1, |book, _, _| book.loads.extend([0, 0, -1, 0])),
-    (15, 1, |book, _, _| book.literals.push(4)),
-    (16, 1, |book, _, _| (book.load_literals.push(4), book.minutes.push(0)).1),
-    (17, 0, |_, claim, _| claim.levels.push(0)),
-    (31, 1, |book, _, _| book.marks[1] = 2),
-    (32, 0, |_, _, room| *room = 20),
-];
-
-/// Every set of these faults: the first in this order wins.
 fn refusals_in_order(session: &mut Session) -> Compared {
-    let sound = Book {
-        rules: vec![0, 0, 1],
-        literals: vec![3],
-        clauses: vec![0, 1],
-        loads: vec![0, 0, 0, 1],
-        load_literals: vec![2],
-        minutes: vec![-6],
-        ..Book::of_atoms(2)
-    };
-    for set in 0..1 << REFUSALS.len() {
-        let chosen = || REFUSALS.iter().enumerate().filter(|(place, _)| set >> place & 1 == 1).map(|(_, refusal)| refusal);
-        let (mut book, mut claim, mut room) = (sound.clone(), plain_claim(2), 200);
-        chosen().for_each(|(_, _, spoil)| spoil(&mut book, &mut claim, &mut room));
-        let verdict = chosen().next().map_or(Verdict::ACCEPTED, |&(number, position, _)| Verdict::refused(number, position));
+    order::every_set(&(plain_claim(2), 200), &REFUSALS, |book, (claim, room), verdict| {
         let case = Case::write(&book, &claim.values, &claim.levels, room);
-        session.stated("11 to 16, 17, 31, 32, in this order", case, verdict)?;
-    }
+        session.stated("11 to 16, 17, 31, 32, in this order", case, verdict)
+    })?;
     let says = "17 covers values and levels, and 31 a wrong number of marks";
-    session.stated(says, Case::write(&sound, &[0], &[0, 0], 0), Verdict::refused(17, 0))?;
-    session.stated(
-        says,
-        Case::write(&Book { marks: vec![0; 3], ..sound.clone() }, &[0; 2], &[0; 2], 0),
-        Verdict::refused(31, 0),
-    )?;
-    session.stated(says, Case::write(&Book { marks: vec![], ..sound }, &[0; 2], &[0; 2], 0), Verdict::refused(31, 0))
+    let marked = |marks: &[u8]| Book { marks: marks.to_vec(), ..order::sound() };
+    session.stated(says, Case::write(&order::sound(), &[0], &[0, 0], 0), Verdict::refused(17, 0))?;
+    session.stated(says, Case::write(&marked(&[0; 3]), &[0; 2], &[0; 2], 0), Verdict::refused(31, 0))?;
+    session.stated(says, Case::write(&marked(&[]), &[0; 2], &[0; 2], 0), Verdict::refused(31, 0))
 }
 
 /// One atom and a literal table of zeros, with so many rules and clauses of so many literals each.

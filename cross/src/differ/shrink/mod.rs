@@ -3,9 +3,12 @@
 mod tables;
 mod texts;
 
-use super::{case::Case, indexed};
+use super::{
+    case::{Case, Written},
+    following, indexed,
+};
 use crate::{
-    book::{Book, Lengths},
+    book::{Book, FollowingLengths, Lengths},
     solver::Solver,
 };
 use std::{
@@ -43,6 +46,7 @@ fn smaller(case: &Case) -> Smaller<'_, Case> {
         Case::Check { book, values, levels } => Box::new(smaller_claims(book, values, levels, Case::check)),
         Case::Write { book, values, levels, room } => smaller_writing(book, values, levels, *room),
         Case::Index { book, starts, entries } => smaller_indexing(book, *starts, *entries),
+        Case::EvaluateIndexed { book, open_values, lent } => smaller_following(book, open_values, *lent),
         Case::Evaluate { book, open_values, written } => {
             let tables =
                 tables::smaller(book).map(|book| Case::Evaluate { book, open_values: open_values.clone(), written: *written });
@@ -87,12 +91,40 @@ fn smaller_indexing(book: &Book, starts: usize, entries: usize) -> Smaller<'_, C
     let whole = indexed::lengths(book);
     let case = move |book: Book| {
         let exact = indexed::lengths(&book);
-        let follow = |length: usize, before: usize, now: usize| (length + now).saturating_sub(before);
-        Case::index(&book, follow(starts, whole.0, exact.0), follow(entries, whole.1, exact.1))
+        Case::index(&book, as_long(starts, whole.0, exact.0), as_long(entries, whole.1, exact.1))
     };
     let exact = ((starts, entries) != whole).then(|| Case::index(book, whole.0, whole.1));
     let atoms = tables::without_an_atom(book).map(move |(_, book)| case(book));
     Box::new(atoms.chain(tables::smaller(book).map(case)).chain(exact))
+}
+
+/// A length that is as much too short or too long for what is needed now as it was for what was needed before.
+fn as_long(length: usize, before: usize, now: usize) -> usize {
+    (length + now).saturating_sub(before)
+}
+
+/// Slices change as what they are to hold does; and have just the lengths that they should have.
+fn smaller_following<'a>(book: &'a Book, open_values: &'a [u8], lent: FollowingLengths) -> Smaller<'a, Case> {
+    let written = Written { values: lent.values, levels: lent.levels, work: lent.work };
+    let whole = following::lengths(book, written);
+    let case = move |book: &Book, open_values: &[u8], written: Written| {
+        let exact = following::lengths(book, written);
+        let lent = FollowingLengths {
+            starts: as_long(lent.starts, whole.starts, exact.starts),
+            entries: as_long(lent.entries, whole.entries, exact.entries),
+            counts: as_long(lent.counts, whole.counts, exact.counts),
+            ..exact
+        };
+        Case::evaluate_indexed(book, open_values, lent)
+    };
+    let less = |length: usize| length.saturating_sub(1);
+    let one_less = Written { values: less(written.values), levels: less(written.levels), work: less(written.work) };
+    let atoms = tables::without_an_atom(book).filter(|_| open_values.len() == book.n);
+    let atoms = atoms.map(move |(atom, book)| case(&book, &without(open_values, atom..atom + 1), one_less));
+    let tables = tables::smaller(book).map(move |book| case(&book, open_values, written));
+    let values = smaller_numbers(open_values).map(move |open_values| case(book, &open_values, written));
+    let exact = (lent != whole).then(|| Case::evaluate_indexed(book, open_values, whole));
+    Box::new(atoms.chain(tables).chain(values).chain(exact))
 }
 
 /// Tables of full size say less than others, so each length that is not needed becomes that.
