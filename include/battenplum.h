@@ -14,8 +14,9 @@
  * reported: for 1 to 4 the first bad line, with its lowest number, and otherwise the first in the order of the numbers below, where 31
  * to 33 stand between 17 and 21, at its lowest position.
  *
- * Machines and stack. The library is built for x86-64 Linux. All work is done on the caller's stack: a thread needs about 144 KB
- * for battenplum_verdict and battenplum_report, about 16 KB for battenplum_evaluate_indexed, and about 8 KB for the other calls.
+ * Machines and stack. The library is built for x86-64 Linux. All work is done on the caller's stack: a thread needs about 152 KB
+ * for battenplum_report, about 144 KB for battenplum_verdict, about 16 KB for battenplum_evaluate_indexed, and about 8 KB for the
+ * other calls.
  */
 #ifndef BATTENPLUM_H
 #define BATTENPLUM_H
@@ -25,8 +26,8 @@
 
 /* The version of this header. Before 1.0 each minor version may change the calls. */
 #define BATTENPLUM_VERSION_MAJOR 0
-#define BATTENPLUM_VERSION_MINOR 6
-#define BATTENPLUM_VERSION "0.6"
+#define BATTENPLUM_VERSION_MINOR 7
+#define BATTENPLUM_VERSION "0.7"
 
 /* For functions defined in this header: inline where the language has it, and no warning if unused. */
 #if defined(__cplusplus) || (defined(__STDC_VERSION__) && __STDC_VERSION__ >= 199901L)

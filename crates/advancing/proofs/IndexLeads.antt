@@ -1,6 +1,6 @@
 -- The index of rules leads from each literal to the rows that hold it, each as often as it does.
 -- Assumes nothing.
-use Prim.Native.Nat.{ℕ, _+_, _*_, _-_, _≤_, _<_, _%_}
+use Prim.Native.Nat.{ℕ, _+_, _*_, _≤_, _<_, _%_}
 use mathlib.Core.Path.{_≡_, refl, sym, ap, _∙_}
 use mathlib.Core.Bool.{true}
 use mathlib.Core.List.{List}
@@ -20,8 +20,8 @@ use Rattle.tables.specs.Rows.{ruleCount, ruleStart, ruleSize, ruleBody, ruleAt}
 use Rattle.tables.specs.internal.Scans.{RulesScannable}
 use Rattle.tables.specs.internal.Definitions.{HasRows}
 use Rattle.sorting.specs.Sorted.{KeyedRows, timesBefore, times, rowsWith, rowsByKey, startOf, startsOf}
-use Rattle.sorting.proofs.Occurrences.{occurs-count, row-often, nth-row, nth-occurrence}
-use Rattle.sorting.proofs.Starts.{start-more, start-rises, start-last, entry-at, entry-key}
+use Rattle.sorting.proofs.Occurrences.{occurs-count, row-often}
+use Rattle.sorting.proofs.Starts.{start-more, start-rises, start-last, entry-at, entry-is}
 use Rattle.indexing.specs.Index.{bodyLiteral, byLiteral}
 use Rattle.propagation.specs.internal.Counts.{Leads, timesUnder}
 use Rattle.propagation.proofs.LackingLaws.{literal-known}
@@ -54,12 +54,7 @@ module _ (k : KeyedRows) (keys : ℕ) where
 
   -- Each entry is a row.
   entry-below : (q : ℕ) → q < length (rowsByKey k keys) → getD (rowsByKey k keys) q 0 < k .rows
-  entry-below q l =
-      let found = entry-key k keys q (rw start-last l) in
-      let one = nth-occurrence k (found .0) (q - startOf k (found .0)) (omega (arith, found .2, found .3)) in
-      let at : startOf k (found .0) + (q - startOf k (found .0)) ≡ q = omega (arith, found .2) in
-      let same = entry-at k keys (found .0) (q - startOf k (found .0)) (found .1) (omega (arith, found .2, found .3)) ∙ nth-row k (found .0) (one .1) in
-      rw (rw at at same) (one .1 .isRow)
+  entry-below q l = entry-is k keys q l .is .isRow
 
   -- Up to the next key's start a row stands as often as it holds the key, beside what it did up to the key's own.
   tally-more :

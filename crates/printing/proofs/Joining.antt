@@ -2,7 +2,7 @@
 -- Assumes nothing.
 use Prim.Native.Nat.{ℕ, _+_, _≤_, _<_}
 use mathlib.Core.Path.{_≡_, ap, _∙_}
-use mathlib.Core.List.{List, []}
+use mathlib.Core.List.{List}
 use native.Mathlib.Omega.{arith}
 use lib.ListN.{length, length-append}
 use Rattle.wellfounded.specs.Lists.{joinBelow}
@@ -29,10 +29,6 @@ joined-start l at f = puts-none
 pub joined-more :
     {l m r : List ℕ} {at mid end : ℕ} (n : ℕ) (f : ℕ → List ℕ) → Joined l at f n mid m → Puts m mid (f n) end r → Joined l at f (n + 1) end r
 joined-more n f p q = rw (join-more n f) (puts-then p q)
-
--- An empty part is passed over.
-pub joined-skip : {l m : List ℕ} {at mid : ℕ} (n : ℕ) (f : ℕ → List ℕ) → f n ≡ [] → Joined l at f n mid m → Joined l at f (n + 1) mid m
-joined-skip n f e p = joined-more n f p (rw e puts-none)
 
 -- While parts are put, there is room for the next one.
 pub joined-fits :

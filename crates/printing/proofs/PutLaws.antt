@@ -49,11 +49,6 @@ puts-behind a b {c} p q = rw (append-assoc a b c) at (puts-then p q)
 pub puts-length : {l m : List ℕ} {at end : ℕ} {a : List ℕ} → Puts l at a end m → length m ≡ length l
 puts-length {l} {m} {at} {end} {a} p = ap length (p .stored) ∙ length-sets l at a
 
--- Where there is room for bytes and those behind them, the second are within the rest.
-pub puts-room :
-    {l m : List ℕ} {at mid : ℕ} (a b : List ℕ) → at + length (a ++ b) ≤ length l → Puts l at a mid m → mid + length b ≤ length m
-puts-room a b h p = let both = length-append a b in omega (arith, p .answered, puts-length p)
-
 -- While bytes are being stored, those before `place` are.
 pub record Storing (before : List ℕ) (at : ℕ) (bytes : List ℕ) (place : ℕ) (present : List ℕ) : Type 0 where
   pub within : place ≤ length bytes

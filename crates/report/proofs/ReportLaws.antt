@@ -30,7 +30,7 @@ pub report-size : (text : List ℕ) → length (reportOf text) ≤ pageSize
 unfolding reportOf outcomePage
 report-size text =
     let b = outcome-bounded text in
-    page-size _ _ _ _ _ (b .values) (λ k. omega (arith, b .levels k, b .rounds)) (b .alike) (b .few) (b .rounds) (b .position)
+    page-size _ _ _ _ _ (b .values) (b .levels) (b .alike) (b .few) (b .rounds) (b .position)
 
 -- and none is empty, so that the length 0 tells of a page that was too short.
 pub report-some : (text : List ℕ) → 1 ≤ length (reportOf text)
@@ -68,15 +68,15 @@ module _ (text valuesBefore levelsBefore : List ℕ) {verdict : Verdict} {state 
   -- What `put_page` asks,
   pub printable :
       (made : Bool) (most : ℕ) → pageSize ≤ most →
-      Printable (take (atoms - 0) values) (take (atoms - 0) levels) ×
+      Printable (take (atoms - 0) values) (take (atoms - 0) levels) rounds ×
       ((positionOf verdict ≤ maxPosition) × (rounds ≤ maxAtoms) ×
       (length (pageOf made verdict rounds (take (atoms - 0) values) (take (atoms - 0) levels)) ≤ most))
   printable made most l =
       let o = outcomeOf text in
       let b = outcome-bounded text in
-      let room = page-size made (o .verdict) (o .rounds) (o .values) (o .levels) (b .values) (λ k. omega (arith, b .levels k, b .rounds)) (b .alike) (b .few) (b .rounds) (b .position) in
+      let room = page-size made (o .verdict) (o .rounds) (o .values) (o .levels) (b .values) (b .levels) (b .alike) (b .few) (b .rounds) (b .position) in
       rw (front-values, front-levels, comes .verdictIs, comes .roundsIs)
-      (record { even = b .alike; few = b .few }, (b .position, b .rounds, omega (arith, room)))
+      (record { paired = record { even = b .alike; few = b .few }; low = b .levels }, (b .position, b .rounds, omega (arith, room)))
 
   -- and what it then has written.
   pub report-written :

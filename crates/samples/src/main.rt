@@ -1,4 +1,4 @@
-// Runs samples through the check and the evaluator, over lent tables.
+// Runs samples through the report, and through the check and the evaluator over lent tables.
 use claims::run_claims;
 use evaluated::run_evaluations;
 
@@ -7,10 +7,12 @@ mod chains;
 mod claims;
 mod evaluated;
 mod marks;
+mod pages;
 mod paper;
 
 fn main() {
     paper::run_paper();
+    pages::run_pages();
     run_claims();
     run_evaluations();
     bad_input::run_bad_input();

@@ -4,7 +4,7 @@ use Prim.Native.Nat.{ℕ, zero, suc, _+_, _-_, _≤_, _<_}
 use mathlib.Core.Path.{_≡_, refl, sym, ap, _∙_}
 use mathlib.Core.Logic.{⊎-elim}
 use mathlib.Core.Bool.{Bool, true, false, cond}
-use mathlib.Core.List.{List, [], _∷_, _++_}
+use mathlib.Core.List.{List, [], _∷_, _++_, append-assoc, append-nil}
 use native.Mathlib.Omega.{arith}
 use native.Mathlib.Nat.{le-of-suc-le-suc, eq-or-lt-of-le, zero-add, suc-add, add-zero, add-suc}
 use native.Mathlib.Numerals.{add-one}
@@ -124,6 +124,12 @@ pub join-more : (n : ℕ) (f : ℕ → List ℕ) → joinBelow (n + 1) f ≡ joi
 unfolding joinBelow
 join-more n f = rw add-one
 
+-- Joined parts from their front.
+pub join-front : (n : ℕ) (f : ℕ → List ℕ) → joinBelow (suc n) f ≡ f 0 ++ joinBelow n (λ k. f (suc k))
+unfolding joinBelow
+join-front zero f = sym (append-nil (f 0))
+join-front (suc n) f = ap (λ (front : List ℕ). front ++ f (suc n)) (join-front n f) ∙ append-assoc (f 0) (joinBelow n (λ k. f (suc k))) (f (suc n))
+
 -- More parts are at least as long.
 join-longer : (m k : ℕ) (f : ℕ → List ℕ) → length (joinBelow m f) ≤ length (joinBelow (k + m) f)
 unfolding joinBelow
@@ -157,6 +163,18 @@ join-at m (suc n) j f l h =
 
 -- ── How often a number stands in a list ──
 
+-- By the list's first entry: in general, where it is the number, and where it is another.
+pub occurs-first : (x y : ℕ) (ys : List ℕ) → occurs x (y ∷ ys) ≡ cond (eqb x y) 1 0 + occurs x ys
+unfolding occurs
+occurs-first x y ys = refl
+
+pub occurs-head : (x : ℕ) (xs : List ℕ) → occurs x (x ∷ xs) ≡ 1 + occurs x xs
+occurs-head x xs = rw (occurs-first x x xs, eq-eqb x x refl)
+
+pub occurs-behind : (x y : ℕ) (ys : List ℕ) → (x ≡ y → ⊥) → occurs x (y ∷ ys) ≡ occurs x ys
+occurs-behind x y ys n = rw (occurs-first x y ys, ne-eqb x y n) (omega arith)
+
+-- In two lists, and in joined ones.
 pub occurs-append : (x : ℕ) (ys zs : List ℕ) → occurs x (ys ++ zs) ≡ occurs x ys + occurs x zs
 unfolding occurs
 occurs-append x [] zs = omega arith

@@ -17,6 +17,11 @@ pub enum Fault {
     HalfToTheOddTenth,
     SignLostAtAHalf,
     UndecidedPrintedLast,
+    FalseBeforeTrue,
+    UndecidedBeforeFalse,
+    ValuesMakeNoDifference,
+    LowerAtomsLast,
+    HigherLevelsFirst,
     MarksIgnored,
     DeclaredHeadsCountedTwice,
     ValuesBeforeMarks,
@@ -61,7 +66,7 @@ pub enum Fault {
 }
 
 impl Fault {
-    pub const ALL: [Fault; 55] = [
+    pub const ALL: [Fault; 60] = [
         Fault::OrderBeforeLimits,
         Fault::FullTableRefused,
         Fault::EmptyRowPastTheEnd,
@@ -76,6 +81,11 @@ impl Fault {
         Fault::HalfToTheOddTenth,
         Fault::SignLostAtAHalf,
         Fault::UndecidedPrintedLast,
+        Fault::FalseBeforeTrue,
+        Fault::UndecidedBeforeFalse,
+        Fault::ValuesMakeNoDifference,
+        Fault::LowerAtomsLast,
+        Fault::HigherLevelsFirst,
         Fault::MarksIgnored,
         Fault::DeclaredHeadsCountedTwice,
         Fault::ValuesBeforeMarks,
@@ -142,6 +152,11 @@ impl Fault {
             Fault::HalfToTheOddTenth => "Of two equally near tenths the odd one counts.",
             Fault::SignLostAtAHalf => "Minutes below 0 and halfway between two tenths count as those above 0 do.",
             Fault::UndecidedPrintedLast => "Undecided atoms are printed after all others, not at level 0.",
+            Fault::FalseBeforeTrue => "Among atoms of equal level false ones are printed before true ones.",
+            Fault::UndecidedBeforeFalse => "Undecided atoms are printed before the false ones of level 0.",
+            Fault::ValuesMakeNoDifference => "Atoms of equal level are printed by rising atom, as before version 0.7.",
+            Fault::LowerAtomsLast => "Atoms of equal level and value are printed by falling atom.",
+            Fault::HigherLevelsFirst => "Atoms are printed by falling level.",
             Fault::MarksIgnored => "A declared atom without a rule is open.",
             Fault::DeclaredHeadsCountedTwice => "D counts an atom twice that is declared and heads a rule.",
             Fault::ValuesBeforeMarks => "31 is looked for after 21, not before it.",

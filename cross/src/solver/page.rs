@@ -2,6 +2,7 @@
 
 use super::{Fault, Solver};
 use crate::book::{Claim, Lengths, Made, Read, State, Verdict};
+use std::cmp::Ordering;
 
 /// A text's outcome: its verdict, and for an open form what the maker made.
 struct Outcome {
@@ -39,14 +40,38 @@ impl Solver {
         }
     }
 
-    /// By rising level, equal levels by rising atom.
+    /// By rising level; among equal levels true atoms, then false ones, then undecided ones; and among these by rising atom.
     fn printing_order(&self, claim: &Claim) -> Vec<usize> {
         let mut atoms: Vec<usize> = (0..claim.values.len()).collect();
-        atoms.sort_by_key(|atom| {
-            let last = self.has(Fault::UndecidedPrintedLast) && claim.values[*atom] == 2;
-            (last, claim.levels[*atom], *atom)
+        let last = |atom: usize| self.has(Fault::UndecidedPrintedLast) && claim.values[atom] == 2;
+        atoms.sort_by(|&one, &other| {
+            last(one)
+                .cmp(&last(other))
+                .then(self.unless_turned(Fault::HigherLevelsFirst, claim.levels[one].cmp(&claim.levels[other])))
+                .then(self.order_of_values(claim.values[one], claim.values[other]))
+                .then(self.unless_turned(Fault::LowerAtomsLast, one.cmp(&other)))
         });
         atoms
+    }
+
+    fn unless_turned(&self, fault: Fault, order: Ordering) -> Ordering {
+        if self.has(fault) {
+            order.reverse()
+        } else {
+            order
+        }
+    }
+
+    /// Which value's atom is printed first, at equal levels.
+    fn order_of_values(&self, one: u8, other: u8) -> Ordering {
+        let values = match self.fault {
+            Some(Fault::ValuesMakeNoDifference) => return Ordering::Equal,
+            Some(Fault::FalseBeforeTrue) => [0, 1, 2],
+            Some(Fault::UndecidedBeforeFalse) => [1, 2, 0],
+            _ => [1, 0, 2],
+        };
+        let place = |value| values.iter().position(|&listed| listed == value).expect("the maker makes no other value");
+        place(one).cmp(&place(other))
     }
 }
 

@@ -392,7 +392,7 @@ fn sentences_at_fault() {
 #[test]
 fn undecided_atoms_are_printed_at_level_0() {
     let page = report("(atoms 4)\n(rule 0)\n(rule 1 (not 1) 0)\n(rule 2 (not 0))\n(clause)\n(open 3)\n");
-    assert_eq!(page, "(made 2)\n(atom 1 2 0)\n(atom 3 1 0)\n(atom 0 1 1)\n(atom 2 0 2)\n(refused 25 1)\n");
+    assert_eq!(page, "(made 2)\n(atom 3 1 0)\n(atom 1 2 0)\n(atom 0 1 1)\n(atom 2 0 2)\n(refused 25 1)\n");
 }
 
 /// 17 comes before 31, and 31 before 21.
@@ -423,7 +423,11 @@ fn spoilt_by(fault: Fault, solver: &Solver) -> String {
         Fault::TruncatedTenths => "(atoms 1)\n(load 1 1 (4 0))\n(open 0)\n",
         Fault::HalfAwayFromZero | Fault::HalfToTheOddTenth => "(atoms 1)\n(load 0 0 (3 0))\n(open 0)\n",
         Fault::HalfTowardZero | Fault::SignLostAtAHalf => "(atoms 1)\n(load -2 -2 (-9 0))\n(open 0)\n",
-        Fault::UndecidedPrintedLast => "(atoms 2)\n(rule 0 (not 0))\n(open)\n",
+        Fault::UndecidedPrintedLast => "(atoms 2)\n(rule 0 (not 0))\n(rule 1)\n(open)\n",
+        Fault::FalseBeforeTrue | Fault::ValuesMakeNoDifference => "(atoms 2)\n(open 1)\n",
+        Fault::UndecidedBeforeFalse => "(atoms 2)\n(rule 0 (not 0))\n(open)\n",
+        Fault::LowerAtomsLast => "(atoms 2)\n(open)\n",
+        Fault::HigherLevelsFirst => "(atoms 2)\n(rule 0)\n(open)\n",
         Fault::MarksIgnored => "(atoms 1)\n(defined 0)\n(open)\n",
         Fault::DeclaredHeadsCountedTwice => "(atoms 1)\n(defined 0)\n(rule 0)\n(claim (1 2))\n",
         Fault::EmptyRowPastTheEnd => return checked(solver, Book { rules: vec![0, 1, 0], ..Book::of_atoms(1) }, [1]),

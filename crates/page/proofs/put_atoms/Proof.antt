@@ -1,53 +1,72 @@
--- `page::put_atoms` meets its contract: the lines of the levels passed are on the page.
+-- `page::put_atoms` meets its contract: its arrays hold the slots and the order of every page.
 -- Assumes nothing.
-use Prim.Native.Nat.{_+_, _-_, _≤_}
+use Prim.Native.Nat.{ℕ, _+_}
+use native.Mathlib.Nat.{sub-zero}
 use native.Mathlib.Omega.{arith}
-use Rattle.printing.proofs.PutLaws.{puts-length}
-use Rattle.printing.proofs.Joining.{joined-start}
-use Rattle.page.specs.Pages.{atomsAt}
-use Rattle.page.proofs.Listing.{Listed, levels-room, levels-put, levels-listed}
+use borrow.Author.Needs.{needs}
+use Rattle.tables.specs.Limits.{maxAtoms}
+use Rattle.page.specs.Pages.{pageKeys}
+use Rattle.page.proofs.OrderingLaws.{cut-fits, cut-room, cut-puts}
 use Rattle.page.proofs.put_atoms.Statement.{statement}
 use Rattle.page.proofs.put_atoms.Tie as tie
 
-abbrev Inv-loop : tie.InvT-loop
-Inv-loop page₀ at values levels rounds next₀ level₀ page next level = (level ≤ rounds + 1) × Listed page₀ at values levels (atomsAt levels) level next page
+-- How many slots the array has.
+abbrev most : ℕ
+most = pageKeys maxAtoms + 1
 
-abbrev μ-loop : tie.MeasureT-loop
-μ-loop page₀ at values levels rounds next₀ level₀ page next level = rounds + 1 - level
+add-used : tie.Need-add-used
+add-used c = search needs
 
-loop-holds : tie.Need-loop-holds Inv-loop μ-loop
-loop-holds c = (omega arith, joined-start _ _ _)
+mul-used : tie.Need-mul-used
+mul-used c = search needs
 
-put-level-requires : tie.Need-put-level-requires Inv-loop μ-loop
-put-level-requires c κs =
+add-used-2 : tie.Need-add-used-2
+add-used-2 c = search needs
+
+sub-put-ordered : tie.Need-sub-put-ordered
+sub-put-ordered c = search needs
+
+part-slots-start : tie.Need-part-slots-start
+part-slots-start c = search needs
+
+part-slots-end : tie.Need-part-slots-end
+part-slots-end c = search needs
+
+sub-put-ordered-2 : tie.Need-sub-put-ordered-2
+sub-put-ordered-2 c = search needs
+
+part-atoms-start : tie.Need-part-atoms-start
+part-atoms-start c = search needs
+
+part-atoms-end : tie.Need-part-atoms-end
+part-atoms-end c = search needs
+
+put-ordered-requires : tie.Need-put-ordered-requires
+put-ordered-requires c κs =
     let pre = c .before .before .before .before .before .before .pre in
-    (pre .0, (omega (arith, pre .1 .0), levels-room _ _ _ _ _ _ _ _ (omega arith) (pre .1 .1) (c .before .before .loop .inv .1)))
+    (cut-fits (pre .0) _ most (sub-zero _) (omega (arith, pre .1 .0)) _ maxAtoms (sub-zero _) (omega (arith, pre .0 .paired .few)), cut-room (pre .0) _ most (sub-zero _) (omega (arith, pre .1 .0)) _ (pre .1 .1))
 
-add-level : tie.Need-add-level Inv-loop μ-loop
-add-level c = omega (arith, c .before .before .before .before .before .before .before .before .before .pre .1 .0)
+same-length : tie.Need-same-length
+same-length c = search needs
 
-loop-less : tie.Need-loop-less Inv-loop μ-loop
-loop-less c = omega arith
-
-loop-again : tie.Need-loop-again Inv-loop μ-loop
-loop-again c = (omega arith, levels-put _ _ _ _ _ _ _ _ _ (c .before .before .before .before .before .loop .inv .1) (c .before .before .put-level .ensures))
-
-same-length : tie.Need-same-length Inv-loop μ-loop
-same-length c = puts-length (c .before .loop .inv .1)
-
-returns : tie.Need-returns Inv-loop μ-loop
-returns c = levels-listed _ _ _ _ _ _ _ _ (omega arith) (c .before .loop .inv .0) (c .before .loop .inv .1)
+returns : tie.Need-returns
+returns c =
+    let pre = c .before .before .before .before .before .before .before .before .before .before .before .pre in
+    cut-puts (pre .0) _ most (sub-zero _) (omega (arith, pre .1 .0)) (c .before .before .before .before .put-ordered .ensures)
 
 pub put-atoms-spec : {M : Type 1} → statement M
 put-atoms-spec =
     tie.close
     (tie.spec
-    Inv-loop
-    μ-loop
-    loop-holds
-    put-level-requires
-    add-level
-    loop-less
-    loop-again
+    add-used
+    mul-used
+    add-used-2
+    sub-put-ordered
+    part-slots-start
+    part-slots-end
+    sub-put-ordered-2
+    part-atoms-start
+    part-atoms-end
+    put-ordered-requires
     same-length
     returns)

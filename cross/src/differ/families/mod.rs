@@ -53,7 +53,9 @@ impl Family {
 
 /// `refusals` are the texts of docs/REFUSALS.md, `examples` the books of examples/, `claims` those of the program textsamples.
 pub fn all(refusals: Vec<Sample>, examples: Vec<Vec<u8>>, claims: Vec<Vec<u8>>) -> Vec<Family> {
-    let samples = [samples::of_the_paper(), readings::texts::all(), readings::declared::texts(), refusals.clone()].concat();
+    let samples =
+        [samples::of_the_paper(), readings::texts::all(), readings::declared::texts(), readings::pages::all(), refusals.clone()]
+            .concat();
     let texts: Vec<Vec<u8>> = samples.into_iter().map(|sample| sample.text).chain(limits::texts()).chain(examples).collect();
     vec![
         Family::new(0, "samples of the paper", |session| compare_samples(session, &samples::of_the_paper())),
@@ -66,6 +68,7 @@ pub fn all(refusals: Vec<Sample>, examples: Vec<Vec<u8>>, claims: Vec<Vec<u8>>) 
             compare_samples(session, &readings::declared::texts())?;
             readings::declared::compare_all(session)
         }),
+        Family::new(28, "readings on the page", |session| compare_samples(session, &readings::pages::all())),
         Family::new(17, "readings on books written back", readings::written::compare_all),
         Family::new(24, "readings on the index", readings::indexed::compare_all),
         Family::new(26, "readings on the maker that follows the index", readings::following::compare_all),

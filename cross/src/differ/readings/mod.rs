@@ -4,6 +4,7 @@ pub mod declared;
 pub mod following;
 pub mod indexed;
 mod order;
+pub mod pages;
 pub mod tables;
 pub mod texts;
 pub mod written;

@@ -3,8 +3,18 @@
 use crate::differ::samples::Sample;
 
 pub fn all() -> Vec<Sample> {
-    let groups =
-        [judging_lines(), order(), counts(), signs_and_zeros(), long_numbers(), forms(), sizes(), tables(), claims(), pages()];
+    let groups = [
+        judging_lines(),
+        order(),
+        counts(),
+        signs_and_zeros(),
+        long_numbers(),
+        forms(),
+        sizes(),
+        tables(),
+        claims(),
+        made_or_not(),
+    ];
     groups.into_iter().flatten().collect()
 }
 
@@ -209,13 +219,10 @@ fn claims() -> Vec<Sample> {
     [lower, compared, defined].into_iter().flatten().collect()
 }
 
-fn pages() -> Vec<Sample> {
+fn made_or_not() -> Vec<Sample> {
     let hidden = "(atoms 1)\n(rule 0 (not 0))\n(clause)\n(load 1 0)\n(open)\n";
-    let undecided = "(atoms 3)\n(rule 1 (not 1))\n(rule 0)\n(open 2)\n";
-    let page = "(made 1)\n(atom 1 2 0)\n(atom 2 1 0)\n(atom 0 1 1)\n(refused 25 1)\n";
     vec![
         Sample::page("25 hides failing clauses and loads", hidden, "(made 0)\n(atom 0 2 0)\n(refused 25 0)\n"),
         Sample::page("an open form that names a defined atom", "(atoms 2)\n(rule 1 0)\n(open 0 1)\n", "(refused 21 1)\n"),
-        Sample::page("undecided atoms print among the atoms of level 0", undecided, page),
     ]
 }
