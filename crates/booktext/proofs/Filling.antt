@@ -28,7 +28,8 @@ use Rattle.forms.specs.internal.Stores.{placeIn, store, storeForms}
 use Rattle.forms.proofs.EntryLaws.{rules-added, literals-added, clauses-added, loads-added, load-literals-added, minutes-added, values-added, levels-added}
 use Rattle.forms.proofs.Marked.{marks-decode}
 use Rattle.forms.proofs.NamedAtoms.{ones-many}
-use Rattle.forms.proofs.OverLaws.{sets-behind, sets-anew, sets-front, over-none}
+use Rattle.forms.proofs.OverLaws.{sets-anew, sets-front, over-none}
+use Rattle.lists.proofs.StoreLaws.{sets-behind}
 use Rattle.booktext.specs.Answers.{spaceOf}
 
 -- ── Stored one after the other ──
@@ -156,7 +157,7 @@ module _ (space : Space) (fs : List Form) (book : IsBook space fs) where
       ap length (marks-decode fs (book .sequence))
       ∙ (ones-many (afterAll start fs .size) _ ∙ sym (values-told (afterAll start fs) (book-passed space fs book .1)))
 
-  -- The state reached counts the entries of each table: N marks and N values, and for a claim N levels.
+  -- The state reached counts the entries of each table: N marks and N values, and for a claim N levels for each group.
   pub used-counts : (table : Table) → length (bookEntries fs table) ≡ countIn (afterAll start fs) table
   unfolding bookEntries givenAnew countIn entriesOf start
   used-counts =

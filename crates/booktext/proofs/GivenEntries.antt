@@ -16,13 +16,15 @@ use Rattle.wellfounded.proofs.Lists.{any-use, any-make, all-use, getD-tabulate,
 use Rattle.format.specs.declared.kinds.Kind.the-variants.{Defined}
 use Rattle.format.specs.Forms.{PairText, Form, openForm, claimForm}
 use Rattle.format.specs.Views.{viewOf, kindNumber, sameKind, ofKind, kindIn}
+use Rattle.items.specs.Items.{levelColumns}
 use Rattle.judging.specs.declared.reached.Reached.{Reached}
 use Rattle.judging.specs.declared.reached.Space.{Space}
 use Rattle.judging.specs.declared.reached.Judged.the-variants.{Passed}
 use Rattle.judging.specs.LentTables.{Marks, Values, Levels}
-use Rattle.judging.specs.States.{nothingYet, openStood, start, advanced, after}
+use Rattle.judging.specs.States.{nothingYet, openStood, start, advanced, after, groupsReached}
 use Rattle.judging.specs.Judging.{atomBound, numbersWithin, mayFollow, risesFrom, partsInOrder, inOrder, judgeText, formsOf}
 use Rattle.judging.specs.Books.{afterAll, IsBook, allPass}
+use Rattle.judging.proofs.StateLaws.{groups-after}
 use Rattle.judging.proofs.LimitLaws.{atoms-limit}
 use Rattle.judging.proofs.Walking.{after-more}
 use Rattle.judging.proofs.Accepted.{Passing, passing, accepted-book, book-passed}
@@ -31,6 +33,7 @@ use Rattle.forms.specs.Decoded.{declaredBy, declaredIn}
 use Rattle.forms.proofs.Marked.{marks-decode}
 use Rattle.forms.proofs.NamedAtoms.{ones-many, named-bound}
 use Rattle.forms.proofs.OpenForm.{open-numbers}
+use Rattle.forms.proofs.DispatchLaws.{columns-none}
 use Rattle.booktext.specs.GivenEntries.{OnesExactly, OpenEntries, ClaimEntries}
 use Rattle.booktext.proofs.Filling.{last-values, last-levels, last-passes}
 
@@ -127,7 +130,7 @@ module _ (space : Space) (text : List ℕ) (s : Reached) (e : judgeText space te
     unfolding last bookEntries entriesOf
     entries-values = ap (λ (forms : List Form). entriesFrom start forms Values) ends ∙ last-values space f start before forms-pass
 
-    entries-levels : bookEntries (formsOf text) Levels ≡ stateLevels f
+    entries-levels : bookEntries (formsOf text) Levels ≡ stateLevels last f
     unfolding last bookEntries entriesOf
     entries-levels = ap (λ (forms : List Form). entriesFrom start forms Levels) ends ∙ last-levels space f start before forms-pass
 
@@ -142,17 +145,18 @@ module _ (space : Space) (text : List ℕ) (s : Reached) (e : judgeText space te
       let bound : atomBound here ≡ here .size = named-bound here f refl (both (mayFollow (kindIn f) (here .phase)) _ (p .follows) (p .ordered)) in
       record {
         values = rw (size, entries-values f ends) (ones-exactly (here .size) atoms (rw (open-numbers, bound) at (p .numbers)));
-        levels = entries-levels f ends;
+        levels = entries-levels f ends ∙ columns-none (groupsReached here);
       }
 
   pub claim-entries :
-      (pairs : List PairText) → formsOf text ≡ before ++ (claimForm pairs ∷ []) → ClaimEntries (s .size) pairs (bookEntries (formsOf text))
+      (pairs : List PairText) → formsOf text ≡ before ++ (claimForm pairs ∷ []) → ClaimEntries (s .size) (groupsReached s) pairs (bookEntries (formsOf text))
   unfolding stateValues stateLevels after advanced partsInOrder risesFrom viewOf ofKind sameKind kindNumber
   claim-entries pairs ends =
       let f = claimForm pairs in
+      let groups : groupsReached s ≡ groupsReached (last f ends) = ap groupsReached (last-state f ends) ∙ groups-after (last f ends) f refl in
       let size : s .size ≡ last f ends .size = ap (λ (t : Reached). t .size) (last-state f ends) in
       record {
         many = eqb-true (length pairs) (last f ends .size) (last-passing f ends .ordered) ∙ sym size;
         values = entries-values f ends;
-        levels = entries-levels f ends;
+        levels = entries-levels f ends ∙ ap (λ (groups : ℕ). levelColumns groups pairs) (sym groups);
       }

@@ -4,6 +4,7 @@ use mathlib.Core.Path.{_≡_}
 use mathlib.Core.List.{List, [], map, List·Memᴰ}
 use lib.ListN.{length, getD}
 use Rattle.format.specs.Forms.{PairText}
+use Rattle.items.specs.Items.{levelColumns}
 use Rattle.judging.specs.LentTables.{Values, Levels}
 use Rattle.forms.specs.Contents.{Contents}
 
@@ -19,8 +20,8 @@ pub record OpenEntries (size : ℕ) (atoms : List ℕ) (entries : Contents) : Ty
   pub values : OnesExactly size atoms (entries Values)
   pub levels : entries Levels ≡ []
 
--- `(claim (V K) ..)` gives the values and the levels of its pairs in turn, one of each for every atom.
-pub record ClaimEntries (size : ℕ) (pairs : List PairText) (entries : Contents) : Type 0 where
+-- `(claim (V K ..) ..)` gives the values of its pairs in turn, one for every atom, and their levels group by group.
+pub record ClaimEntries (size groups : ℕ) (pairs : List PairText) (entries : Contents) : Type 0 where
   pub many : length pairs ≡ size
   pub values : entries Values ≡ map (λ (p : PairText). p .value) pairs
-  pub levels : entries Levels ≡ map (λ (p : PairText). p .level) pairs
+  pub levels : entries Levels ≡ levelColumns groups pairs

@@ -36,26 +36,34 @@ positive-test literal =
 
 -- The search by marks of the defined atoms looks for the fault of the definition.
 pub levels-search :
-    {d : Definition} {defined values levels : List ℕ} {most : ℕ} → Readable d defined values levels → definedCount d ≡ most →
+    {d : Definition} {defined levels : List ℕ} {most : ℕ} → Readable d defined levels → definedCount d ≡ most →
     lowest (length levels) (λ atom. not (levelFits defined most levels atom)) ≡ lowest (d .size) (badLevel d levels)
 unfolding badLevel levelInRange levelFits
 levels-search {d} r count = rw (r .levelled) (lowest-same _ _ (d .size) (λ atom l. rw (r .tells atom l, count)))
 
 -- Levels without a fault are in range.
 pub levels-ranged :
-    {d : Definition} {defined values levels : List ℕ} → Readable d defined values levels → lowest (d .size) (badLevel d levels) ≡ Nothing →
+    {d : Definition} {values levels : List ℕ} → length values ≡ d .size → length levels ≡ d .size → lowest (d .size) (badLevel d levels) ≡ Nothing →
     Ranged d values levels
 unfolding badLevel
-levels-ranged {d} {levels = levels} r none =
+levels-ranged {d} {levels = levels} valued levelled none =
     record {
-      valued = r .valued;
-      levelled = r .levelled;
+      valued = valued;
+      levelled = levelled;
       openLevel = λ atom o. levelInRange-open d levels atom (in-range atom (open-below d atom o)) o;
       definedLevel = λ atom h. levelInRange-defined d levels atom (in-range atom (defined-below d atom h)) h .0;
     }
   where
     in-range : (atom : ℕ) → atom < d .size → levelInRange d levels atom ≡ true
     in-range atom l = not-false _ (lowest-none (badLevel d levels) (d .size) none atom l)
+
+-- They tell the defined atoms from the open ones.
+pub level-tells :
+    {d : Definition} {values levels : List ℕ} → Ranged d values levels → (atom : ℕ) → atom < d .size → leb 1 (levelAt levels atom) ≡ isDefined d atom
+level-tells {d} {levels = levels} r atom l =
+    ⊎-elim (λ (h : isDefined d atom ≡ true). rw h (le-leb 1 (levelAt levels atom) (r .definedLevel atom h)))
+    (λ (h : isDefined d atom ≡ false). rw (h, r .openLevel atom (rw (open-test d atom l, h))))
+    (decided (isDefined d atom))
 
 -- ── Literals ──
 

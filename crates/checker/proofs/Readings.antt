@@ -6,7 +6,8 @@ use mathlib.Core.Logic.{_↔_}
 use mathlib.Core.Bool.{true, not, _&&_, false≢true}
 use mathlib.Core.List.{List, List·Memᴰ}
 use native.Mathlib.Omega.{arith}
-use borrow.Author.Tests.{not-true}
+use lib.Dec.{eqb}
+use borrow.Author.Tests.{not-true, eqb-true, eq-eqb}
 use lib.IntN.{ℤ}
 use lib.Signed.{_≤ℤ_}
 use Rattle.wellfounded.specs.Literals.{isTrue, isFalse, isHeld, valueAt, literalTrue}
@@ -15,7 +16,7 @@ use Rattle.wellfounded.specs.Levels.{levelAt, Supports, Blocks, blocks}
 use Rattle.wellfounded.proofs.Tests.{clash, not-both, both, first, second}
 use Rattle.wellfounded.proofs.Lists.{any-use, any-make}
 use Rattle.wellfounded.proofs.Levels.{levelInRange-open, levelInRange-defined, levelInRange-make, isSupported-use, isSupported-make, blocks-use, blocks-make}
-use Rattle.tables.specs.Rows.{ruleHead, ruleBody, clauseAt}
+use Rattle.tables.specs.Rows.{ruleHead, ruleBody, ruleGroup, inGroup, clauseAt}
 use Rattle.satisfaction.specs.Satisfied.{loadSum}
 use Rattle.tables.specs.Loads.{loadAt}
 use Rattle.satisfaction.specs.Satisfied.{failingClause, failingLoad}
@@ -70,25 +71,27 @@ support-fault d values levels atom = (
   λ says. both _ _ (both _ _ (says .0) (says .1)) (ap not (not-both _ (λ s. says .2 (isSupported-use d values levels atom s)))),
 )
 
--- 24: a row of a false atom of which no literal blocks.
+-- 24: a row of the group with a false head of which no literal blocks.
 pub blocking-fault :
-    (d : Definition) (rules literals values levels : List ℕ) (row : ℕ) →
-    (unblocked d rules literals values levels row ≡ true) ↔
-    ((isFalse (valueAt values (ruleHead rules row)) ≡ true) ×
+    (d : Definition) (rules literals : List ℕ) (group : ℕ) (values levels : List ℕ) (row : ℕ) →
+    (unblocked d rules literals group values levels row ≡ true) ↔
+    ((ruleGroup rules row ≡ group) × (isFalse (valueAt values (ruleHead rules row)) ≡ true) ×
     ((literal : ℕ) × List·Memᴰ literal (ruleBody rules literals row) × Blocks d values levels (ruleHead rules row) literal → ⊥))
-unfolding unblocked
-blocking-fault d rules literals values levels row = (
-  λ h. (
-    first _ _ h,
-    λ found.
-        clash (any-make (blocks d values levels (ruleHead rules row)) _ (found .1) (blocks-make d values levels _ (found .0) (found .2)))
-        (not-true _ (second (isFalse (valueAt values (ruleHead rules row))) _ h)),
-  ),
+unfolding unblocked inGroup
+blocking-fault d rules literals group values levels row = (
+  λ h.
+      let here = first (eqb (ruleGroup rules row) group && isFalse (valueAt values (ruleHead rules row))) _ h in (
+        eqb-true _ _ (first _ _ here),
+        second (eqb (ruleGroup rules row) group) _ here,
+        λ found.
+            clash (any-make (blocks d values levels (ruleHead rules row)) _ (found .1) (blocks-make d values levels _ (found .0) (found .2)))
+            (not-true _ (second (eqb (ruleGroup rules row) group && isFalse (valueAt values (ruleHead rules row))) _ h)),
+      ),
   λ says.
-      both _ _ (says .0)
+      both _ _ (both _ _ (eq-eqb _ _ (says .0)) (says .1))
       (ap not (not-both _ (λ b.
       let found = any-use (blocks d values levels (ruleHead rules row)) (ruleBody rules literals row) b in
-      says .1 (found .0, found .1, blocks-use d values levels _ (found .0) (found .2))))),
+      says .2 (found .0, found .1, blocks-use d values levels _ (found .0) (found .2))))),
 )
 
 -- 26: a clause row of which no literal is true.

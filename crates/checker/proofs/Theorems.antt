@@ -1,7 +1,7 @@
 -- What the check promises: statements about `checkOf`, the definition that the contract of `check` cites.
 -- A claim is accepted if the check's number is 0. `t` is any content of the lent tables, sound or not.
 -- Assumes nothing.
-use Prim.Native.Nat.{ℕ, _≤_}
+use Prim.Native.Nat.{ℕ, _≤_, _<_}
 use mathlib.Core.Path.{_≡_, ap, _∙_}
 use mathlib.Core.Logic.{_↔_}
 use mathlib.Core.List.{List, List·Memᴰ, Memᴰ·append-left, Memᴰ·append-right}
@@ -10,7 +10,8 @@ use Rattle.wellfounded.specs.Levels.{levelAt}
 use Rattle.wellfounded.proofs.Theorems.{sound, stage-below-level, unique}
 use Rattle.tables.specs.declared.Fault.{Fault}
 use Rattle.tables.specs.Faults.{Test, Absent, numberOf, positionOf, faultNumber, RefusedBy}
-use Rattle.tables.specs.Sound.{Tables, bookOf, claimSlices, lentTests, Sound}
+use Rattle.tables.specs.Rows.{groupCount}
+use Rattle.tables.specs.Sound.{Tables, groupOf, groupLevels, claimSlices, lentTests, Sound}
 use Rattle.satisfaction.specs.Satisfied.{Satisfies}
 use Rattle.tables.proofs.Faults.{accepted-absent, absent-accepted, first-append, refused-by, by-refused}
 use Rattle.tables.proofs.Numbers.{zero-accepted, number-refused}
@@ -58,41 +59,36 @@ module _ (t : Tables) (values levels : List ℕ) where
     λ r. let e = by-refused (checkTests t values levels) fault position r in (ap numberOf e, ap positionOf e),
   )
 
-  -- ── Demand 3, of accepted claims ──
+  -- ── Demand 3, of accepted claims: of each group's definition ──
 
-  -- An accepted claim is the well-founded model for its open atoms,
-  pub accepted-model :
-      numberOf (checkOf t values levels) ≡ 0 → (setting : List ℕ) → SameSetting (bookOf t) setting values →
-      wellFoundedModel (bookOf t) setting ≡ values
-  accepted-model zero setting alike =
-      let right = accepted-right zero in
-      sound (bookOf t) values levels setting (right .twoValued) (right .obeys) alike
+  module _ (zero : numberOf (checkOf t values levels) ≡ 0) (group : ℕ) (below : group < groupCount (t .rules)) (setting : List ℕ)
+      (alike : SameSetting (groupOf t group) setting values) where
+    -- An accepted claim is the well-founded model for the group's open atoms,
+    pub accepted-model : wellFoundedModel (groupOf t group) setting ≡ values
+    accepted-model =
+        let right = accepted-right zero in
+        sound (groupOf t group) values (groupLevels (t .atoms) levels group) setting (right .twoValued group) (right .obeys group below) alike
 
-  -- which is two-valued
-  pub accepted-two-valued :
-      numberOf (checkOf t values levels) ≡ 0 → (setting : List ℕ) → SameSetting (bookOf t) setting values →
-      TwoValued (bookOf t) (wellFoundedModel (bookOf t) setting)
-  accepted-two-valued zero setting alike = rw (accepted-model zero setting alike) (accepted-right zero .twoValued)
+    -- which is two-valued
+    pub accepted-two-valued : TwoValued (groupOf t group) (wellFoundedModel (groupOf t group) setting)
+    accepted-two-valued = rw accepted-model (accepted-right zero .twoValued group)
 
-  -- and satisfies all clauses and load lines.
-  pub accepted-satisfied :
-      numberOf (checkOf t values levels) ≡ 0 → (setting : List ℕ) → SameSetting (bookOf t) setting values →
-      Satisfies t (wellFoundedModel (bookOf t) setting)
-  accepted-satisfied zero setting alike = rw (accepted-model zero setting alike) (accepted-right zero .satisfies)
+    -- and satisfies all clauses and load lines.
+    pub accepted-satisfied : Satisfies t (wellFoundedModel (groupOf t group) setting)
+    accepted-satisfied = rw accepted-model (accepted-right zero .satisfies)
 
-  -- No level is below its atom's stage.
-  pub accepted-levels :
-      numberOf (checkOf t values levels) ≡ 0 → (setting : List ℕ) → SameSetting (bookOf t) setting values →
-      (atom : ℕ) → stageOf (bookOf t) setting atom ≤ levelAt levels atom
-  accepted-levels zero setting alike =
-      let right = accepted-right zero in
-      stage-below-level (bookOf t) values levels setting (right .twoValued) (right .obeys) alike
+    -- No level is below its atom's stage.
+    pub accepted-levels : (atom : ℕ) → stageOf (groupOf t group) setting atom ≤ levelAt (groupLevels (t .atoms) levels group) atom
+    accepted-levels =
+        let right = accepted-right zero in
+        stage-below-level (groupOf t group) values (groupLevels (t .atoms) levels group) setting (right .twoValued group) (right .obeys group below) alike
 
--- Two accepted claims that agree on the open atoms have equal values, whatever their levels are.
+-- Two accepted claims that agree on one group's open atoms have equal values, whatever the other groups and all levels are.
 pub accepted-unique :
     (t : Tables) (v l w m : List ℕ) → numberOf (checkOf t v l) ≡ 0 → numberOf (checkOf t w m) ≡ 0 →
-    SameSetting (bookOf t) v w → v ≡ w
-accepted-unique t v l w m first second alike =
+    (group : ℕ) → group < groupCount (t .rules) → SameSetting (groupOf t group) v w → v ≡ w
+accepted-unique t v l w m first second group below alike =
     let rightV = accepted-right t v l first in
     let rightW = accepted-right t w m second in
-    unique (bookOf t) v l w m (rightV .twoValued) (rightV .obeys) (rightW .twoValued) (rightW .obeys) alike
+    unique (groupOf t group) v (groupLevels (t .atoms) l group) w (groupLevels (t .atoms) m group)
+    (rightV .twoValued group) (rightV .obeys group below) (rightW .twoValued group) (rightW .obeys group below) alike

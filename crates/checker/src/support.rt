@@ -1,20 +1,31 @@
 // True atoms and the rules that support them.
 ghost use mathlib.Core.Path.{_≡_};
 ghost use mathlib.Core.Bool.{not, _&&_};
-ghost use Prim.Native.Nat.{_≤_, _<_};
+ghost use Prim.Native.Nat.{ℕ, _≤_, _<_};
+ghost use lib.Dec.{leb};
 ghost use lib.ListN.{length};
-ghost use Rattle.wellfounded.specs.Lists.{all};
+ghost use Rattle.wellfounded.specs.Lists.{all, tabulate};
+ghost use Rattle.wellfounded.specs.Definitions.{Definition};
+ghost use Rattle.wellfounded.specs.Levels.{levelAt};
 ghost use Rattle.wellfounded.specs.Literals.{atomOf, isTrue, valueAt, bodyAt};
 ghost use Rattle.wellfounded.specs.internal.Scans.{Scannable};
-ghost use Rattle.tables.specs.Faults.{lowest};
+ghost use Rattle.tables.specs.Faults.{lowest, firstFault};
+ghost use Rattle.tables.specs.Sound.{groupLevels};
+ghost use Rattle.checker.specs.Check.{unsupported, supportTest};
 ghost use Rattle.tables.specs.Rows.{ruleCount};
 ghost use Rattle.tables.specs.internal.Marks.{isMarked, markWhere};
-ghost use Rattle.checker.specs.internal.Scans.{HasEntries, Levelled, supportsBelow, supportsRow, supportedBy};
+ghost use Rattle.checker.specs.internal.Scans.{HasEntries, Levelled, HeadsLevelled, GroupRanged, GroupsLevelled, GroupsRanged};
+ghost use Rattle.checker.specs.internal.Scans.{supportsBelow, supportsRow, supportedBy};
+use crate::levels::levels_of;
+use tables::Fault;
 use tables::Found;
+use tables::Verdict;
 use tables::rows::rule_count;
+use tables::rows::rule_group;
 use tables::rows::rule_head;
 use tables::rows::rule_size;
 use tables::rows::rule_start;
+use tables::sizes::MAX_ATOMS;
 use wellfounded::atom_of;
 use wellfounded::literal_true;
 
@@ -64,11 +75,21 @@ fn body_supports(
     literals_support(&literals[start..], size, level, values, levels)
 }
 
-// Whether the rule row's head is true and the row supports it.
-fn row_supports(rules: &[u16], row: usize, literals: &[u16], values: &[u8], levels: &[u16]) -> bool
+// Whether the rule row is of the group, its head is true and the row supports it. The body of another group's row is not walked.
+fn row_supports(
+    rules: &[u16],
+    row: usize,
+    literals: &[u16],
+    group: usize,
+    values: &[u8],
+    levels: &[u16],
+) -> bool
     requires { ⌜ (row < ruleCount (now rules)) × Levelled (now rules) (now literals) (now values) (now levels) ⌝ }
-    ensures { λ r. ⌜ r ≡ supportsRow (now (rules .entry)) (now (literals .entry)) (now (values .entry)) (now (levels .entry)) row ⌝ }
+    ensures { λ r. ⌜ r ≡ supportsRow (now (rules .entry)) (now (literals .entry)) group (now (values .entry)) (now (levels .entry)) row ⌝ }
 {
+    if rule_group(rules, row) != group {
+        return false;
+    }
     let head = rule_head(rules, row);
     if values[head] != 1 {
         return false;
@@ -78,10 +99,11 @@ fn row_supports(rules: &[u16], row: usize, literals: &[u16], values: &[u8], leve
     body_supports(literals, start, size, levels[head], values, levels)
 }
 
-// Marks every true atom that a rule supports. A row whose head is marked is passed over.
-pub fn mark_supported(
+// Marks every true atom that a rule of the group supports. A row whose head is marked is passed over.
+fn mark_supported(
     rules: &[u16],
     literals: &[u16],
+    group: usize,
     values: &[u8],
     levels: &[u16],
     supported: &mut [u8],
@@ -89,32 +111,76 @@ pub fn mark_supported(
     requires { ⌜ Levelled (now rules) (now literals) (now values) (now levels) ⌝ }
     requires { ⌜ length (now values) ≤ length (now supported) ⌝ }
     ensures { λ r. ⌜ now (supported .exit) ≡ markWhere
-        (supportedBy (now (rules .entry)) (now (literals .entry)) (now (values .entry)) (now (levels .entry)) (ruleCount (now (rules .entry))))
+        (supportedBy (now (rules .entry)) (now (literals .entry)) group (now (values .entry)) (now (levels .entry)) (ruleCount (now (rules .entry))))
         (now (supported .entry)) ⌝ }
 {
     let rows = rule_count(rules);
     let mut row = 0;
     while row < rows {
         let head = rule_head(rules, row);
-        if supported[head] != 1 && row_supports(rules, row, literals, values, levels) {
+        if supported[head] != 1 && row_supports(rules, row, literals, group, values, levels) {
             supported[head] = 1;
         }
         row += 1;
     }
 }
 
-// The lowest atom that is defined and true and has no support.
-pub fn unsupported_atom(defined: &[u8], values: &[u8], supported: &[u8]) -> Found
-    requires { ⌜ (length (now values) ≤ length (now defined)) × (length (now values) ≤ length (now supported)) ⌝ }
+// The lowest atom that is defined and true and has no support. A level from 1 on tells that an atom is defined.
+fn unsupported_atom(values: &[u8], levels: &[u16], supported: &[u8]) -> Found
+    requires { ⌜ (length (now values) ≤ length (now levels)) × (length (now values) ≤ length (now supported)) ⌝ }
     ensures { λ r. ⌜ r ≡ lowest (length (now (values .entry)))
-        (λ atom. isMarked (now (defined .entry)) atom && isTrue (valueAt (now (values .entry)) atom) && not (isMarked (now (supported .entry)) atom)) ⌝ }
+        (λ atom. leb 1 (levelAt (now (levels .entry)) atom) && isTrue (valueAt (now (values .entry)) atom) && not (isMarked (now (supported .entry)) atom)) ⌝ }
 {
     let mut atom = 0;
     while atom < values.len() {
-        if defined[atom] == 1 && values[atom] == 1 && supported[atom] != 1 {
+        if 1 <= levels[atom] && values[atom] == 1 && supported[atom] != 1 {
             return Found::At(atom);
         }
         atom += 1;
     }
     Found::Nothing
+}
+
+// The lowest true atom that a group defines and that has no rule there which supports it. `levels` are those of the group.
+fn unsupported_in_group(
+    rules: &[u16],
+    literals: &[u16],
+    group: usize,
+    values: &[u8],
+    levels: &[u16],
+) -> Found
+    requires { ⌜ HeadsLevelled (now rules) (now literals) group (now values) (now levels) ⌝ }
+    ensures { λ r. ⌜ ((d : Definition) → GroupRanged d (now (rules .entry)) (now (literals .entry)) group (now (values .entry)) (now (levels .entry)) →
+        r ≡ lowest (d .size) (unsupported d (now (values .entry)) (now (levels .entry)))) ⌝ }
+{
+    let mut supported = [0u8; MAX_ATOMS];
+    mark_supported(rules, literals, group, values, levels, &mut supported);
+    unsupported_atom(values, levels, &supported)
+}
+
+// The first fault of true atoms, group by group.
+pub fn support_fault(
+    rules: &[u16],
+    literals: &[u16],
+    groups: usize,
+    values: &[u8],
+    levels: &[u16],
+) -> Verdict
+    requires { ⌜ GroupsLevelled (now rules) (now literals) groups (now values) (now levels) ⌝ }
+    requires { ⌜ ((group : ℕ) → group < groups → HeadsLevelled (now rules) (now literals) group (now values)
+        (groupLevels (length (now values)) (now levels) group)) ⌝ }
+    ensures { λ r. ⌜ ((d : ℕ → Definition) → GroupsRanged d (now (rules .entry)) (now (literals .entry)) groups (now (values .entry)) (now (levels .entry)) →
+        r ≡ firstFault (tabulate groups (λ group. supportTest (d group) (now (values .entry))
+        (groupLevels (length (now (values .entry))) (now (levels .entry)) group)))) ⌝ }
+{
+    let atoms = values.len();
+    let mut group = 0;
+    while group < groups {
+        let part = levels_of(levels, atoms, group);
+        if let Found::At(atom) = unsupported_in_group(rules, literals, group, values, part) {
+            return Verdict::Refused(Fault::Unsupported, atom);
+        }
+        group += 1;
+    }
+    Verdict::Accepted
 }

@@ -20,7 +20,7 @@ use Rattle.tables.specs.declared.Verdict.the-variants.{Accepted, Refused}
 use Rattle.tables.specs.Faults.{lowest, Test, Absent, firstFault}
 use Rattle.tables.specs.internal.Marks.{isMarked}
 use Rattle.tables.specs.internal.Marks.{TellsDefined}
-use Rattle.tables.specs.Sound.{Tables, lent, bookOf, tableTests, Slice, isSized, sliceTest, markCountTest, markTest}
+use Rattle.tables.specs.Sound.{Tables, lent, groupOf, bookOf, tableTests, Slice, isSized, sliceTest, markCountTest, markTest}
 use Rattle.satisfaction.specs.Satisfied.{satisfactionTests}
 use Rattle.tables.proofs.Faults.{lowest-same, found-refuses, nothing-leaves, first-fails, once-fails, first-append, first-append-refused, accepted-absent}
 use Rattle.tables.proofs.SoundTables.{sound-sizes, sound-rules, sound-clauses, sound-loads, slice-leaves, lent-order, marks-refuse, marks-leave}
@@ -34,11 +34,11 @@ use Rattle.evaluator.specs.internal.Lent.{Lent, startTests}
 
 module _
     (t : Tables) (setting values levels work : List ℕ) (long : length setting ≡ t .atoms) (sound : Lent t values levels work) (defined : List ℕ)
-    (marked : TellsDefined (t .rules) (t .marks) maxAtoms defined)
+    (marked : TellsDefined (t .rules) (t .marks) 0 maxAtoms defined)
   where
     tells : (atom : ℕ) → atom < t .atoms → isMarked defined atom ≡ isDefined (bookOf t) atom
-    unfolding bookOf
-    tells = defined-tell (t .atoms) (t .rules) (t .literals) (t .marks) (sound .marksLong) marked
+    unfolding bookOf groupOf
+    tells = defined-tell (t .atoms) (t .rules) (t .literals) (t .marks) 0 (sound .marksLong) marked
 
     -- The search of the setting looks for the fault of the definition.
     pub setting-same : lowest (length setting) (badStart defined setting) ≡ lowest (bookOf t .size) (badSetting (bookOf t) setting)

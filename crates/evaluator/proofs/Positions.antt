@@ -12,7 +12,7 @@ use Rattle.tables.specs.declared.Verdict.the-variants.{Accepted, Refused}
 use Rattle.tables.specs.Limits.{maxAtoms, maxPosition}
 use Rattle.tables.specs.Faults.{positionOf, firstFault}
 use Rattle.tables.specs.Rows.{definitionOf}
-use Rattle.tables.specs.Sound.{Tables, bookOf, lentTests, Slice, Sizes}
+use Rattle.tables.specs.Sound.{Tables, groupOf, bookOf, lentTests, Slice, Sizes}
 use Rattle.tables.proofs.Faults.{accepted-absent}
 use Rattle.tables.proofs.Positions.{position-more, position-none, passed-sizes, few-atoms, few-in-book, lent-position}
 use Rattle.satisfaction.proofs.Positions.{satisfaction-position}
@@ -43,7 +43,7 @@ module _ (t : Tables) (setting : List ℕ) (slices : List Slice) (e : firstFault
   small-tables = passed-sizes t slices _ e
 
   pub small-book : bookOf t .size ≤ maxAtoms
-  unfolding bookOf definitionOf
+  unfolding bookOf groupOf definitionOf
   small-book = small-tables .fewAtoms
 
   pub small-closure : closure (bookOf t) setting ≤ maxAtoms

@@ -88,7 +88,7 @@ fn evaluate_lent(
         };
     }
     let mut defined = [0u8; MAX_ATOMS];
-    mark_defined(rules, marks, &mut defined);
+    mark_defined(rules, 0, marks, &mut defined);
     if let Found::At(atom) = bad_setting(&defined, setting) {
         return Answer {
             verdict: Verdict::Refused(Fault::Value, atom),

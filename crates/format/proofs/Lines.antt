@@ -16,8 +16,8 @@ use Rattle.format.specs.Words.{startsWith, wordOf, kindOf}
 use Rattle.format.specs.Parse.{Reading, got, refused, Holds, andThen, skip, readNumber, readSigned, readLiteral, readTerm, readPair, parts}
 use Rattle.format.specs.Parse.{readAtoms, readRule, readClause, readLoad, readOpen, readClaim, asDefined, readDefined, readAs, readForm, whole, parse, readLine}
 use Rattle.format.proofs.Readings.{holds-use, holds-then, skip-written}
-use Rattle.format.proofs.Pieces.{closing-ends, space-ends, number-inverse, signed-inverse, literal-inverse, term-inverse, pair-inverse}
-use Rattle.format.proofs.Parts.{parts-end, parts-reads, parts-written}
+use Rattle.format.proofs.Pieces.{closing-ends, space-ends, number-inverse, signed-inverse, literal-inverse, term-inverse}
+use Rattle.format.proofs.Parts.{parts-end, parts-reads, parts-written, pair-inverse}
 use Rattle.format.proofs.WordLaws.{started}
 
 -- Each form is read as it is written.

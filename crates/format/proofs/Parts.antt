@@ -1,4 +1,4 @@
--- Parts up to the closing bracket are read as they are written, if each part is.
+-- Parts up to the closing bracket are read as they are written, if each part is; so are pairs, with their levels.
 -- Assumes nothing.
 use Prim.Native.Nat.{ℕ, zero, suc, _≤_, _<_}
 use mathlib.Core.Path.{_≡_, refl, sym, ap, _∙_}
@@ -9,11 +9,11 @@ use native.Mathlib.Nat.{not-suc-le-zero}
 use lib.Dec.{eqb}
 use lib.ListN.{length, length-append}
 use borrow.Author.Tests.{eqb-true, eqb-false, ne-eqb}
-use Rattle.format.specs.Forms.{space, closing, partsBytes}
+use Rattle.format.specs.Forms.{PairText, space, opening, closing, decimal, partsBytes, pairBytes}
 use Rattle.format.specs.Words.{startsWith}
-use Rattle.format.specs.Parse.{Reading, got, refused, Holds, andThen, startsWithDigit, readParts, parts}
-use Rattle.format.proofs.Readings.{holds-use, holds-cond, holds-then}
-use Rattle.format.proofs.Pieces.{Inverse, closing-ends, space-ends}
+use Rattle.format.specs.Parse.{Reading, got, refused, Holds, andThen, skip, startsWithDigit, readNumber, readParts, parts, readPair}
+use Rattle.format.proofs.Readings.{holds-use, holds-cond, holds-then, skip-written}
+use Rattle.format.proofs.Pieces.{Inverse, number-inverse, closing-ends, space-ends}
 
 module _ {A : Type 0} (bytes : A → List ℕ) where
   -- No digit stands where a part ends.
@@ -113,3 +113,26 @@ module _ {A : Type 0} (bytes : A → List ℕ) (item : List ℕ → Reading A) (
   unfolding parts readParts startsWith
   parts-none [] s c = refl
   parts-none (b ∷ bs) s c = rw (swapped b closing (no-more (eqb closing b) c), swapped b space (no-more (eqb space b) s))
+
+pair-reads : (p : PairText) (rest : List ℕ) → startsWithDigit rest ≡ false → readPair (pairBytes p ++ rest) ≡ got p rest
+unfolding pairBytes readPair andThen skip
+pair-reads p rest e =
+    rw (
+      append-assoc,
+      number-inverse .reads (p .value) (partsBytes decimal (p .levels) ++ rest) (parts-end decimal (p .levels) rest),
+      parts-reads decimal readNumber number-inverse (p .levels) rest,
+    )
+
+pair-written : (bs : List ℕ) → Holds (λ p rest. bs ≡ pairBytes p ++ rest) (readPair bs)
+unfolding readPair pairBytes
+pair-written bs =
+    holds-then (λ o after. bs ≡ opening ∷ after) Goal (skip (opening ∷ []) bs) _ (skip-written (opening ∷ []) bs) λ o after e.
+    holds-then (λ v rest. after ≡ decimal v ++ rest) Goal (readNumber after) _ (number-inverse .written after) λ v rest f.
+    holds-then (λ ks end. rest ≡ partsBytes decimal ks ++ end) Goal (parts readNumber rest) _ (parts-written decimal readNumber number-inverse rest) λ ks end g.
+    rw (e, f, g) (simp append-assoc)
+  where
+    Goal : PairText → List ℕ → Type 0
+    Goal p rest = bs ≡ pairBytes p ++ rest
+
+pub pair-inverse : Inverse pairBytes readPair
+pair-inverse = record { reads = pair-reads; written = pair-written }

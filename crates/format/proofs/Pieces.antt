@@ -1,4 +1,4 @@
--- Signed numbers, literals, terms and pairs are read as they are written.
+-- Signed numbers, literals and terms are read as they are written.
 -- Assumes nothing.
 use Prim.Native.Nat.{ℕ, zero, suc, _-_}
 use mathlib.Core.Path.{_≡_, refl, _∙_}
@@ -9,10 +9,10 @@ use lib.Dec.{eqb}
 use lib.IntN.{ℤ, pos, negsuc}
 use borrow.Author.Tests.{eqb-true, ne-eqb}
 use Rattle.wellfounded.proofs.Tests.{first}
-use Rattle.format.specs.Forms.{LiteralText, TermText, PairText, space, opening, closing, minus, notWord}
-use Rattle.format.specs.Forms.{decimal, signed, literalBytes, termBytes, pairBytes}
+use Rattle.format.specs.Forms.{LiteralText, TermText, space, opening, closing, minus, notWord}
+use Rattle.format.specs.Forms.{decimal, signed, literalBytes, termBytes}
 use Rattle.format.specs.Parse.{Reading, got, refused, Holds, andThen, skip, isDigit, startsWithDigit, moreDigits, readNumber, asNegative}
-use Rattle.format.specs.Parse.{readSigned, readNegated, readLiteral, readTerm, readPair}
+use Rattle.format.specs.Parse.{readSigned, readNegated, readLiteral, readTerm}
 use Rattle.format.proofs.Readings.{holds-use, holds-cond, holds-then, skip-written}
 use Rattle.format.proofs.Decimals.{number-reads, number-written, digit-is}
 
@@ -137,28 +137,3 @@ term-written bs =
 
 pub term-inverse : Inverse termBytes readTerm
 term-inverse = record { reads = term-reads; written = term-written }
-
-pair-reads : (p : PairText) (rest : List ℕ) → startsWithDigit rest ≡ false → readPair (pairBytes p ++ rest) ≡ got p rest
-unfolding pairBytes readPair andThen skip
-pair-reads p rest e =
-    simp append-assoc
-    (rw (
-      number-reads (p .value) (space ∷ (decimal (p .level) ++ (closing ∷ rest))) (space-ends _),
-      number-reads (p .level) (closing ∷ rest) (closing-ends rest),
-    ))
-
-pair-written : (bs : List ℕ) → Holds (λ p rest. bs ≡ pairBytes p ++ rest) (readPair bs)
-unfolding readPair pairBytes
-pair-written bs =
-    holds-then (λ o after. bs ≡ opening ∷ after) Goal (skip (opening ∷ []) bs) _ (skip-written (opening ∷ []) bs) λ o after e.
-    holds-then (λ v rest. after ≡ decimal v ++ rest) Goal (readNumber after) _ (number-written after) λ v rest f.
-    holds-then (λ s next. rest ≡ space ∷ next) Goal (skip (space ∷ []) rest) _ (skip-written (space ∷ []) rest) λ s next g.
-    holds-then (λ k last. next ≡ decimal k ++ last) Goal (readNumber next) _ (number-written next) λ k last h.
-    holds-then (λ c end. last ≡ closing ∷ end) Goal (skip (closing ∷ []) last) _ (skip-written (closing ∷ []) last) λ c end i.
-    rw (e, f, g, h, i) (simp append-assoc)
-  where
-    Goal : PairText → List ℕ → Type 0
-    Goal p rest = bs ≡ pairBytes p ++ rest
-
-pub pair-inverse : Inverse pairBytes readPair
-pair-inverse = record { reads = pair-reads; written = pair-written }

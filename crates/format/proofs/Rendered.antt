@@ -59,15 +59,15 @@ unfolding termBytes all written
 term-bytes t =
     join-bytes (signed (t .minutes)) _ (signed-bytes (t .minutes)) (join-bytes (literalBytes (t .literal)) _ (literal-bytes (t .literal)) refl)
 
-pair-bytes : (p : PairText) → Bytes (pairBytes p)
-unfolding pairBytes all written
-pair-bytes p = join-bytes (decimal (p .value)) _ (decimal-bytes (p .value)) (join-bytes (decimal (p .level)) _ (decimal-bytes (p .level)) refl)
-
 module _ {A : Type 0} (bytes : A → List ℕ) (each : (x : A) → Bytes (bytes x)) where
   parts-bytes : (xs : List A) → Bytes (partsBytes bytes xs)
   unfolding partsBytes all written
   parts-bytes [] = refl
   parts-bytes (x ∷ xs) = join-bytes (bytes x) _ (each x) (parts-bytes xs)
+
+pair-bytes : (p : PairText) → Bytes (pairBytes p)
+unfolding pairBytes all written
+pair-bytes p = join-bytes (decimal (p .value)) _ (decimal-bytes (p .value)) (parts-bytes decimal decimal-bytes (p .levels))
 
 render-written : (f : Form) → Bytes (render f)
 unfolding render all written

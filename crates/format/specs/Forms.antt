@@ -10,14 +10,14 @@ pub record LiteralText : Type 0 where
   pub atom : ℕ
   pub negated : Bool
 
--- A term of a load line is minutes and a literal; a claim pair is a value and a level.
+-- A term of a load line is minutes and a literal; a claim pair is a value and its levels.
 pub record TermText : Type 0 where
   pub minutes : ℤ
   pub literal : LiteralText
 
 pub record PairText : Type 0 where
   pub value : ℕ
-  pub level : ℕ
+  pub levels : List ℕ
 
 -- One form stands on each line. A defined form names at least one atom: the first, and those after it.
 pub data Form : Type 0 where
@@ -65,18 +65,19 @@ notWord = 40 ∷ 110 ∷ 111 ∷ 116 ∷ 32 ∷ []
 unfoldable pub literalBytes : LiteralText → List ℕ
 literalBytes l = cond (l .negated) (notWord ++ (decimal (l .atom) ++ (closing ∷ []))) (decimal (l .atom))
 
--- `(M L)` and `(V K)`.
+-- `(M L)`.
 unfoldable pub termBytes : TermText → List ℕ
 termBytes t = opening ∷ (signed (t .minutes) ++ (space ∷ (literalBytes (t .literal) ++ (closing ∷ []))))
 
-unfoldable pub pairBytes : PairText → List ℕ
-pairBytes p = opening ∷ (decimal (p .value) ++ (space ∷ (decimal (p .level) ++ (closing ∷ []))))
-
--- Parts that may follow, each after one space, and the closing bracket of the form.
+-- Parts that may follow, each after one space, and the closing bracket.
 module _ {A : Type 0} where
   unfoldable pub partsBytes : (A → List ℕ) → List A → List ℕ
   partsBytes bytes [] = closing ∷ []
   partsBytes bytes (x ∷ xs) = space ∷ (bytes x ++ partsBytes bytes xs)
+
+-- `(V K ..)`, with any number of levels.
+unfoldable pub pairBytes : PairText → List ℕ
+pairBytes p = opening ∷ (decimal (p .value) ++ partsBytes decimal (p .levels))
 
 -- The words that forms begin with: `(atoms`, `(rule`, `(clause`, `(load`, `(open`, `(claim`, `(defined`.
 abbrev pub atomsWord : List ℕ

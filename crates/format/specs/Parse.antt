@@ -79,12 +79,6 @@ readTerm bytes =
     andThen (skip (space ∷ []) rest) (λ s next. andThen (readLiteral next) (λ l last.
     andThen (skip (closing ∷ []) last) (λ c end. got (record { minutes = m; literal = l }) end)))))
 
-unfoldable pub readPair : List ℕ → Reading PairText
-readPair bytes =
-    andThen (skip (opening ∷ []) bytes) (λ o after. andThen (readNumber after) (λ v rest.
-    andThen (skip (space ∷ []) rest) (λ s next. andThen (readNumber next) (λ k last.
-    andThen (skip (closing ∷ []) last) (λ c end. got (record { value = v; level = k }) end)))))
-
 -- Parts that may follow, each after one space, up to the closing bracket. There are no more parts than bytes.
 module _ {A : Type 0} where
   unfoldable pub readParts : (List ℕ → Reading A) → ℕ → List ℕ → Reading (List A)
@@ -96,6 +90,12 @@ module _ {A : Type 0} where
 
   unfoldable pub parts : (List ℕ → Reading A) → List ℕ → Reading (List A)
   parts item bytes = readParts item (length bytes) bytes
+
+-- A claim pair: its levels are parts of it.
+unfoldable pub readPair : List ℕ → Reading PairText
+readPair bytes =
+    andThen (skip (opening ∷ []) bytes) (λ o after. andThen (readNumber after) (λ v rest.
+    andThen (parts readNumber rest) (λ ks end. got (record { value = v; levels = ks }) end)))
 
 -- A form of each kind, read after its word.
 unfoldable pub readAtoms : List ℕ → Reading Form

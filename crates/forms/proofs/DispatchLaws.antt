@@ -1,12 +1,14 @@
 -- Laws of forms read at an offset: the word that stands there tells how a form is read on and what it adds to the tables.
 -- Assumes nothing.
-use Prim.Native.Nat.{ℕ, _+_, _-_}
+use Prim.Native.Nat.{ℕ, zero, suc, _+_, _-_}
 use mathlib.Core.Path.{_≡_, refl, sym, ap, fun-ext, _∙_}
+use mathlib.Core.Bool.{Bool, true, false, cond}
 use mathlib.Core.List.{List, [], _∷_, _++_, map}
 use native.Mathlib.Omega.{arith}
 use lib.IntN.{ℤ}
 use lib.ListN.{length, drop, length-append, length-drop}
 use lib.Seq.{sets, drop-drop}
+use Rattle.wellfounded.specs.Lists.{all, joinBelow}
 use Rattle.format.specs.declared.kinds.Kind.{Kind}
 use Rattle.format.specs.declared.kinds.Kind.the-variants.{Atoms, Rule, Clause, Load, Open, Claim, Defined, Unknown}
 use Rattle.format.specs.Forms.{LiteralText, TermText, PairText, Form, atomsForm, ruleForm, clauseForm, loadForm, openForm, claimForm, definedForm}
@@ -15,11 +17,12 @@ use Rattle.format.specs.Views.{viewOf, ofKind, sameKind, kindNumber}
 use Rattle.format.specs.Words.{wordOf, kindAt}
 use Rattle.format.specs.Parse.{Reading, got, refused, Holds, andThen, skip, readNumber, readSigned, readLiteral, readTerm, readPair, parts}
 use Rattle.format.specs.Parse.{readAtoms, readRule, readClause, readLoad, readOpen, readClaim, asDefined, readDefined, readAs, readForm}
-use Rattle.items.specs.Items.{literalCode}
+use Rattle.items.specs.Items.{literalCode, levelColumns}
 use Rattle.format.proofs.Lines.{kind-begins}
 use Rattle.judging.specs.declared.reached.Reached.{Reached}
 use Rattle.judging.specs.LentTables.{Rules, Literals, Clauses, Loads, LoadLiterals, Minutes, Marks, Values, Levels}
-use Rattle.judging.specs.States.{countIn}
+use Rattle.judging.specs.States.{groupsReached, countIn}
+use Rattle.judging.specs.Judging.{levelled, ifLevelled}
 use Rattle.judging.proofs.TableLaws.{each-table}
 use Rattle.lists.specs.internal.Lists.{Inside}
 use Rattle.forms.specs.declared.Line.{Line}
@@ -95,13 +98,39 @@ module _ (P : Form → Type 0) (bytes : List ℕ) where
       step [] end = tt
       step (atom ∷ others) end = h atom others
 
--- What a form of some kind has written is what its entries ask.
+-- What a form of some kind has written is what its entries ask,
 lifted :
     {s : Reached} {text : List ℕ} {answer : Line} (bytes : List ℕ) {written : Form → Type 0} (stored : Form → Type 0) (r : Reading Form) →
-    readForm bytes ≡ r → Holds (λ f rest. written f → stored f) r → Forms s text r answer written →
-    Forms s text (readForm bytes) answer stored
-lifted bytes stored (got f rest) e h read = rw e record { answered = read .answered; laid = λ fine. h (read .laid fine) }
+    readForm bytes ≡ r → Holds (λ f rest. written f → stored f) r → Forms s text (ifLevelled s r) answer written →
+    Forms s text (ifLevelled s (readForm bytes)) answer stored
+unfolding ifLevelled
+lifted {s} {text} {answer} bytes {written} stored (got f rest) e h read = rw e (step (levelled s f) read)
+  where
+    step : (b : Bool) → Forms s text (cond b (got f rest) refused) answer written → Forms s text (cond b (got f rest) refused) answer stored
+    step true k = record { answered = k .answered; laid = λ fine. h (k .laid fine) }
+    step false k = record { answered = k .answered; laid = tt }
 lifted bytes stored refused e h read = rw e record { answered = read .answered; laid = tt }
+
+-- and forms without pairs are levelled.
+pairless : (s : Reached) (r : Reading Form) → Holds (λ f rest. viewOf f .pairs ≡ []) r → ifLevelled s r ≡ r
+unfolding ifLevelled levelled all
+pairless s (got f rest) h = rw h
+pairless s refused h = refl
+
+lifted-plain :
+    {s : Reached} {text : List ℕ} {answer : Line} (bytes : List ℕ) {written : Form → Type 0} (stored : Form → Type 0) (r : Reading Form) →
+    readForm bytes ≡ r → Holds (λ f rest. viewOf f .pairs ≡ []) r → Holds (λ f rest. written f → stored f) r → Forms s text r answer written →
+    Forms s text (ifLevelled s (readForm bytes)) answer stored
+lifted-plain {s} bytes stored r e none h read = lifted bytes stored r e h (rw (pairless s r none) read)
+
+-- Without pairs there are no levels.
+pub columns-none : (groups : ℕ) → levelColumns groups [] ≡ []
+unfolding levelColumns joinBelow
+columns-none zero = refl
+columns-none (suc groups) = rw (columns-none groups)
+
+no-levels : (s : Reached) (levels : List ℕ) → levels ≡ sets levels 0 (levelColumns (groupsReached s) [])
+no-levels s levels = rw (columns-none (groupsReached s))
 
 -- A form's entries are stored where each table has them.
 stored-tables :
@@ -115,8 +144,8 @@ stored-tables s f before after r l c d o m a v k =
 
 -- No word of a form stands at the offset.
 module _ {s : Reached} {text : List ℕ} (at : ℕ) {result : Kind} (before : Contents) (is : result ≡ kindAt text at) where
-  pub no-kind : result ≡ Unknown → Forms s text (readForm (drop at text)) NoForm (Stored s before before)
-  unfolding readAs formed
+  pub no-kind : result ≡ Unknown → Forms s text (ifLevelled s (readForm (drop at text))) NoForm (Stored s before before)
+  unfolding readAs formed ifLevelled
   no-kind e = rw (read-as text at Unknown is e) record { answered = refl; laid = tt }
 
 -- A form of each kind, read after its word. It adds to the tables of its kind, and the others are left as they were.
@@ -125,54 +154,54 @@ module _ {s : Reached} {text : List ℕ} (at : ℕ) {result : Kind} {answer : Li
   pub atoms-form :
       (marks₁ : List ℕ) → result ≡ Atoms →
       Forms s text (readAtoms (drop (at + 6) text)) answer (λ f. marks₁ ≡ sets (before Marks) 0 (marksGiven s f)) →
-      Forms s text (readForm (drop at text)) answer
+      Forms s text (ifLevelled s (readForm (drop at text))) answer
       (Stored s before
       (lentTables (before Rules) (before Literals) (before Clauses) (before Loads) (before LoadLiterals) (before Minutes) marks₁
       (before Values) (before Levels)))
   unfolding readAs wordOf lentTables store placeIn givenAnew countIn entriesOf literalsIn termsIn ruleRow clauseRow loadRow marksGiven stateValues stateLevels viewOf ofKind sameKind kindNumber
   atoms-form marks₁ e read =
-      lifted (drop at text) (Stored s before _) (readAtoms (drop (at + 6) text)) (read-as text at Atoms is e)
-      (only-atoms _ _ λ n w. stored-tables s (atomsForm n) before _ refl refl refl refl refl refl w refl refl) read
+      lifted-plain (drop at text) (Stored s before _) (readAtoms (drop (at + 6) text)) (read-as text at Atoms is e)
+      (only-atoms _ _ λ n. refl) (only-atoms _ _ λ n w. stored-tables s (atomsForm n) before _ refl refl refl refl refl refl w refl (no-levels s (before Levels))) read
 
   pub defined-form :
       (marks₁ : List ℕ) → result ≡ Defined →
       Forms s text (readDefined (drop (at + 8) text)) answer (λ f. marks₁ ≡ sets (before Marks) 0 (marksGiven s f)) →
-      Forms s text (readForm (drop at text)) answer
+      Forms s text (ifLevelled s (readForm (drop at text))) answer
       (Stored s before
       (lentTables (before Rules) (before Literals) (before Clauses) (before Loads) (before LoadLiterals) (before Minutes) marks₁
       (before Values) (before Levels)))
   unfolding readAs wordOf lentTables store placeIn givenAnew countIn entriesOf literalsIn termsIn ruleRow clauseRow loadRow marksGiven stateValues stateLevels viewOf ofKind sameKind kindNumber
   defined-form marks₁ e read =
-      lifted (drop at text) (Stored s before _) (readDefined (drop (at + 8) text)) (read-as text at Defined is e)
-      (only-defined _ _ λ atom others w. stored-tables s (definedForm atom others) before _ refl refl refl refl refl refl w refl refl) read
+      lifted-plain (drop at text) (Stored s before _) (readDefined (drop (at + 8) text)) (read-as text at Defined is e)
+      (only-defined _ _ λ atom others. refl) (only-defined _ _ λ atom others w. stored-tables s (definedForm atom others) before _ refl refl refl refl refl refl w refl (no-levels s (before Levels))) read
 
   pub rule-form :
       (rules₁ literals₁ : List ℕ) → result ≡ Rule →
       Forms s text (readRule (drop (at + 5) text)) answer (λ f.
       (rules₁ ≡ sets (before Rules) (s .rules) (ruleRow s f)) ×
       (literals₁ ≡ sets (before Literals) (s .literals) (map literalCode (literalsIn f)))) →
-      Forms s text (readForm (drop at text)) answer
+      Forms s text (ifLevelled s (readForm (drop at text))) answer
       (Stored s before
       (lentTables rules₁ literals₁ (before Clauses) (before Loads) (before LoadLiterals) (before Minutes) (before Marks) (before Values)
       (before Levels)))
   unfolding readAs wordOf lentTables store placeIn givenAnew countIn entriesOf literalsIn termsIn ruleRow clauseRow loadRow marksGiven stateValues stateLevels viewOf ofKind sameKind kindNumber
   rule-form rules₁ literals₁ e read =
-      lifted (drop at text) (Stored s before _) (readRule (drop (at + 5) text)) (read-as text at Rule is e)
-      (only-rules _ _ λ head ls w. stored-tables s (ruleForm head ls) before _ (w .0) (w .1) refl refl refl refl refl refl refl) read
+      lifted-plain (drop at text) (Stored s before _) (readRule (drop (at + 5) text)) (read-as text at Rule is e)
+      (only-rules _ _ λ head ls. refl) (only-rules _ _ λ head ls w. stored-tables s (ruleForm head ls) before _ (w .0) (w .1) refl refl refl refl refl refl (no-levels s (before Levels))) read
 
   pub clause-form :
       (literals₁ clauses₁ : List ℕ) → result ≡ Clause →
       Forms s text (readClause (drop (at + 7) text)) answer (λ f.
       (clauses₁ ≡ sets (before Clauses) (s .clauses) (clauseRow s f)) ×
       (literals₁ ≡ sets (before Literals) (s .literals) (map literalCode (literalsIn f)))) →
-      Forms s text (readForm (drop at text)) answer
+      Forms s text (ifLevelled s (readForm (drop at text))) answer
       (Stored s before
       (lentTables (before Rules) literals₁ clauses₁ (before Loads) (before LoadLiterals) (before Minutes) (before Marks) (before Values)
       (before Levels)))
   unfolding readAs wordOf lentTables store placeIn givenAnew countIn entriesOf literalsIn termsIn ruleRow clauseRow loadRow marksGiven stateValues stateLevels viewOf ofKind sameKind kindNumber
   clause-form literals₁ clauses₁ e read =
-      lifted (drop at text) (Stored s before _) (readClause (drop (at + 7) text)) (read-as text at Clause is e)
-      (only-clauses _ _ λ ls w. stored-tables s (clauseForm ls) before _ refl (w .1) (w .0) refl refl refl refl refl refl) read
+      lifted-plain (drop at text) (Stored s before _) (readClause (drop (at + 7) text)) (read-as text at Clause is e)
+      (only-clauses _ _ λ ls. refl) (only-clauses _ _ λ ls w. stored-tables s (clauseForm ls) before _ refl (w .1) (w .0) refl refl refl refl refl (no-levels s (before Levels))) read
 
   pub load-form :
       (loads₁ : List ℤ) (loadLiterals₁ : List ℕ) (minutes₁ : List ℤ) → result ≡ Load →
@@ -180,32 +209,32 @@ module _ {s : Reached} {text : List ℕ} (at : ℕ) {result : Kind} {answer : Li
       (loads₁ ≡ sets (before Loads) (s .loads) (loadRow s f))
       × (loadLiterals₁ ≡ sets (before LoadLiterals) (s .terms) (map (λ (t : TermText). literalCode (t .literal)) (termsIn f)))
       × (minutes₁ ≡ sets (before Minutes) (s .terms) (map (λ (t : TermText). t .minutes) (termsIn f)))) →
-      Forms s text (readForm (drop at text)) answer
+      Forms s text (ifLevelled s (readForm (drop at text))) answer
       (Stored s before
       (lentTables (before Rules) (before Literals) (before Clauses) loads₁ loadLiterals₁ minutes₁ (before Marks) (before Values)
       (before Levels)))
   unfolding readAs wordOf lentTables store placeIn givenAnew countIn entriesOf literalsIn termsIn ruleRow clauseRow loadRow marksGiven stateValues stateLevels viewOf ofKind sameKind kindNumber
   load-form loads₁ loadLiterals₁ minutes₁ e read =
-      lifted (drop at text) (Stored s before _) (readLoad (drop (at + 5) text)) (read-as text at Load is e)
-      (only-loads _ _ λ lo hi ts w. stored-tables s (loadForm lo hi ts) before _ refl refl refl (w .0) (w .1) (w .2) refl refl refl) read
+      lifted-plain (drop at text) (Stored s before _) (readLoad (drop (at + 5) text)) (read-as text at Load is e)
+      (only-loads _ _ λ lo hi ts. refl) (only-loads _ _ λ lo hi ts w. stored-tables s (loadForm lo hi ts) before _ refl refl refl (w .0) (w .1) (w .2) refl refl (no-levels s (before Levels))) read
 
   pub open-form :
       (values₁ : List ℕ) → result ≡ Open →
       Forms s text (readOpen (drop (at + 5) text)) answer (λ f. values₁ ≡ sets (before Values) 0 (stateValues s f)) →
-      Forms s text (readForm (drop at text)) answer
+      Forms s text (ifLevelled s (readForm (drop at text))) answer
       (Stored s before
       (lentTables (before Rules) (before Literals) (before Clauses) (before Loads) (before LoadLiterals) (before Minutes) (before Marks) values₁
       (before Levels)))
   unfolding readAs wordOf lentTables store placeIn givenAnew countIn entriesOf literalsIn termsIn ruleRow clauseRow loadRow marksGiven stateValues stateLevels viewOf ofKind sameKind kindNumber
   open-form values₁ e read =
-      lifted (drop at text) (Stored s before _) (readOpen (drop (at + 5) text)) (read-as text at Open is e)
-      (only-open _ _ λ atoms w. stored-tables s (openForm atoms) before _ refl refl refl refl refl refl refl w refl) read
+      lifted-plain (drop at text) (Stored s before _) (readOpen (drop (at + 5) text)) (read-as text at Open is e)
+      (only-open _ _ λ atoms. refl) (only-open _ _ λ atoms w. stored-tables s (openForm atoms) before _ refl refl refl refl refl refl refl w (no-levels s (before Levels))) read
 
   pub claim-form :
       (values₁ levels₁ : List ℕ) → result ≡ Claim →
-      Forms s text (readClaim (drop (at + 6) text)) answer (λ f.
-      (values₁ ≡ sets (before Values) 0 (stateValues s f)) × (levels₁ ≡ sets (before Levels) 0 (stateLevels f))) →
-      Forms s text (readForm (drop at text)) answer
+      Forms s text (ifLevelled s (readClaim (drop (at + 6) text))) answer (λ f.
+      (values₁ ≡ sets (before Values) 0 (stateValues s f)) × (levels₁ ≡ sets (before Levels) 0 (stateLevels s f))) →
+      Forms s text (ifLevelled s (readForm (drop at text))) answer
       (Stored s before
       (lentTables (before Rules) (before Literals) (before Clauses) (before Loads) (before LoadLiterals)
       (before Minutes) (before Marks) values₁ levels₁))

@@ -1,12 +1,15 @@
 -- What a form adds to the counts of a state is as long as its entries, table by table.
 -- Assumes nothing.
-use Prim.Native.Nat.{ℕ, _+_}
+use Prim.Native.Nat.{ℕ, zero, suc, _+_, _*_}
 use mathlib.Core.Path.{_≡_, refl, ap}
 use mathlib.Core.Bool.{Bool, true, false, cond, _||_}
 use mathlib.Core.List.{List, [], map}
+use native.Mathlib.Numerals.{unary-clauses}
+use native.Mathlib.Omega.{arith}
 use lib.Dec.{eqb}
-use lib.ListN.{length, length-map}
+use lib.ListN.{length, length-append, length-map}
 use borrow.Author.Tests.{eqb-true}
+use Rattle.wellfounded.specs.Lists.{joinBelow}
 use Rattle.wellfounded.proofs.Tests.{second}
 use Rattle.tables.specs.Rows.{ruleWidth, clauseWidth}
 use Rattle.tables.specs.Loads.{loadWidth}
@@ -14,9 +17,9 @@ use Rattle.format.specs.declared.kinds.Kind.the-variants.{Rule, Clause, Load, O
 use Rattle.format.specs.Forms.{TermText, PairText, Form}
 use Rattle.format.specs.Views.{viewOf, kindIn, sameKind, ofKind}
 use Rattle.format.proofs.ViewLaws.{lists-by-kind}
-use Rattle.items.specs.Items.{literalCode}
+use Rattle.items.specs.Items.{literalCode, levelIn, levelColumns}
 use Rattle.judging.specs.declared.reached.Reached.{Reached}
-use Rattle.judging.specs.States.{advanced, after, valuesCounted, levelsCounted}
+use Rattle.judging.specs.States.{advanced, after, groupsReached, valuesCounted, levelsCounted}
 use Rattle.judging.specs.Judging.{risesFrom, partsInOrder}
 use Rattle.judging.proofs.StateLaws.{values-after, levels-after}
 use Rattle.forms.specs.Entries.{literalsIn, termsIn, ruleRow, clauseRow, loadRow, onesAt, stateValues, stateLevels}
@@ -26,6 +29,18 @@ use Rattle.forms.proofs.NamedAtoms.{ones-many}
 row-length : {A : Type 0} (b : Bool) (row : List A) (width : ℕ) → length row ≡ width → length (cond b row []) ≡ cond b width 0
 row-length true row width e = e
 row-length false row width e = refl
+
+-- The columns of levels, one for each group.
+pub columns-long : (groups : ℕ) (ps : List PairText) → length (levelColumns groups ps) ≡ length ps * groups
+unfolding levelColumns joinBelow
+columns-long zero ps = omega arith
+columns-long (suc groups) ps =
+    rw (length-append (levelColumns groups ps) (map (levelIn groups) ps), length-map ps (levelIn groups), columns-long groups ps)
+    (simp unary-clauses (omega arith))
+
+some-or-none : (b : Bool) (n m : ℕ) → cond b n 0 * m ≡ cond b (n * m) 0
+some-or-none true n m = refl
+some-or-none false n m = omega arith
 
 module _ (s : Reached) (f : Form) where
   pub rules-added : s .rules + length (ruleRow s f) ≡ after s f .rules
@@ -74,6 +89,7 @@ module _ (s : Reached) (f : Form) where
       step true = ones-many (s .size) (viewOf f .atoms)
       step false = rw length-map (pairs-counted o)
 
-  pub levels-added : partsInOrder s f ≡ true → length (stateLevels f) ≡ levelsCounted (after s f)
+  pub levels-added : partsInOrder s f ≡ true → length (stateLevels s f) ≡ levelsCounted (after s f)
   unfolding stateLevels
-  levels-added o = rw (levels-after, length-map) (pairs-counted o)
+  levels-added o =
+      rw (levels-after, columns-long (groupsReached s) (viewOf f .pairs), pairs-counted o) (some-or-none (sameKind (kindIn f) Claim) (s .size) (groupsReached s))

@@ -9,11 +9,6 @@ use lib.Seq.{sets, sets-eq, take-at, drop-nil, set-set, set-comm}
 use Rattle.forms.specs.Contents.{over}
 
 module _ {A : Type 0} where
-  -- Entries set behind others are set with them.
-  pub sets-behind : (held xs ys : List A) (n m : ℕ) → m ≡ n + length xs → sets (sets held n xs) m ys ≡ sets held n (xs ++ ys)
-  sets-behind held [] ys n m e = let same : m ≡ n = omega arith in rw same
-  sets-behind held (x ∷ xs) ys n m e = sets-behind (set held n x) xs ys (suc n) m (omega arith)
-
   -- One set before others may as well be set first.
   set-sooner : (held xs : List A) (n m : ℕ) (a : A) → n < m → set (sets held m xs) n a ≡ sets (set held n a) m xs
   set-sooner held [] n m a l = refl

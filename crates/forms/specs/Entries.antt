@@ -9,10 +9,10 @@ use Rattle.wellfounded.specs.Lists.{any, tabulate}
 use Rattle.format.specs.declared.kinds.Kind.the-variants.{Rule, Clause, Load, Open, Defined}
 use Rattle.format.specs.Forms.{LiteralText, TermText, PairText, Form}
 use Rattle.format.specs.Views.{viewOf, ofKind}
-use Rattle.items.specs.Items.{literalCode}
+use Rattle.items.specs.Items.{literalCode, levelColumns}
 use Rattle.judging.specs.declared.reached.Reached.{Reached}
 use Rattle.judging.specs.LentTables.{Table, Rules, Literals, Clauses, Loads, LoadLiterals, Minutes, Marks, Values, Levels}
-use Rattle.judging.specs.States.{start, after}
+use Rattle.judging.specs.States.{start, after, groupsReached}
 use Rattle.forms.specs.Contents.{Contents, over}
 
 -- The literals and the terms that a form lists.
@@ -40,12 +40,13 @@ onesAt size atoms = tabulate size (λ atom. cond (any (eqb atom) atoms) 1 0)
 unfoldable pub marksGiven : Reached → Form → List ℕ
 marksGiven s f = cond (ofKind Defined f) (onesAt (s .size) (viewOf f .atoms)) (replicate (viewOf f .size) 0)
 
--- An open form gives every atom a value, 1 if it is named; a claim gives values and levels by its pairs, which no other form has.
+-- An open form gives every atom a value, 1 if it is named; a claim gives values and levels by its pairs, which no other form has: the levels of
+-- each group stand behind those of the group before it.
 unfoldable pub stateValues : Reached → Form → List ℕ
 stateValues s f = cond (ofKind Open f) (onesAt (s .size) (viewOf f .atoms)) (map (λ (p : PairText). p .value) (viewOf f .pairs))
 
-unfoldable pub stateLevels : Form → List ℕ
-stateLevels f = map (λ (p : PairText). p .level) (viewOf f .pairs)
+unfoldable pub stateLevels : Reached → Form → List ℕ
+stateLevels s f = levelColumns (groupsReached s) (viewOf f .pairs)
 
 -- What a form adds to each table.
 unfoldable pub entriesOf : Reached → Form → Contents
@@ -57,7 +58,7 @@ entriesOf s f LoadLiterals = map (λ (t : TermText). literalCode (t .literal)) (
 entriesOf s f Minutes = map (λ (t : TermText). t .minutes) (termsIn f)
 entriesOf s f Marks = marksGiven s f
 entriesOf s f Values = stateValues s f
-entriesOf s f Levels = stateLevels f
+entriesOf s f Levels = stateLevels s f
 
 -- Marks, values and levels are given anew, from the front; the entries of the other tables are laid down behind those before them.
 unfoldable pub givenAnew : Table → Bool

@@ -4,6 +4,7 @@ use format::words::byte_at;
 use judging::reached::NOTHING_YET;
 use judging::reached::Reached;
 use judging::reached::Shape;
+use judging::reached::groups_reached;
 use lists::Parts;
 use lists::read_atoms;
 use lists::read_literals;
@@ -32,7 +33,7 @@ ghost use Rattle.format.specs.Parse.{readNumber, parts, readAtoms, readRule, re
 ghost use Rattle.items.specs.Items.{literalCode};
 ghost use Rattle.tables.specs.Limits.{maxBound, maxAtoms};
 ghost use Rattle.judging.specs.States.{countsWithin};
-ghost use Rattle.judging.specs.Judging.{atomBound};
+ghost use Rattle.judging.specs.Judging.{atomBound, ifLevelled};
 ghost use Rattle.judging.specs.internal.Shapes.{cappedRise};
 ghost use Rattle.lists.specs.internal.Lists.{Inside, Lists, marked};
 ghost use Rattle.forms.specs.Entries.{literalsIn, termsIn, ruleRow, clauseRow, loadRow, marksGiven, stateValues, stateLevels};
@@ -258,7 +259,7 @@ pub fn read_defined_form(text: &[u8], at: usize, reached: Reached, marks: &mut [
     Line::Formed(shape, end)
 }
 
-// `(V K) ..)` of `(claim (V K) ..)`.
+// `(V K ..) ..)` of `(claim (V K ..) ..)`: each pair has a level for each group.
 pub fn read_claim_form(
     text: &[u8],
     at: usize,
@@ -267,19 +268,32 @@ pub fn read_claim_form(
     levels: &mut [u16],
 ) -> Line
     requires { ⌜ Inside (now text) at ⌝ }
-    ensures { λ r. ⌜ Forms reached (now (text .entry)) (readClaim (drop at (now (text .entry)))) r
+    requires { ⌜ reached .size ≤ maxAtoms ⌝ }
+    ensures { λ r. ⌜ Forms reached (now (text .entry)) (ifLevelled reached (readClaim (drop at (now (text .entry))))) r
         (λ f. (now (values .exit) ≡ sets (now (values .entry)) 0 (stateValues reached f))
-        × (now (levels .exit) ≡ sets (now (levels .entry)) 0 (stateLevels f))) ⌝ }
+        × (now (levels .exit) ≡ sets (now (levels .entry)) 0 (stateLevels reached f))) ⌝ }
 {
-    let Parts::Listed(parts, within, rising, end) = read_pairs(text, at, values, levels) else {
+    let groups = groups_reached(reached);
+    let size = reached.size;
+    let Parts::Listed(parts, within, levelled, end) = read_pairs(
+        text,
+        at,
+        groups,
+        size,
+        values,
+        levels,
+    ) else {
         return Line::NoForm;
     };
+    if !levelled {
+        return Line::NoForm;
+    }
     let shape = Shape {
         kind: Kind::Claim,
         size: 0,
         parts,
         within: within & (parts <= MAX_ATOMS),
-        rising,
+        rising: true,
     };
     Line::Formed(shape, end)
 }

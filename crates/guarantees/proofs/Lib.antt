@@ -2,4 +2,5 @@
 pub mod Theorems
 pub mod IndexedMaker
 pub mod Making
+pub mod EveryModel
 pub mod Withdrawn

@@ -1,15 +1,18 @@
 -- What the maker answers and leaves, with the proofs of `Theorems`.
 -- Assumes nothing.
-use Prim.Native.Nat.{ℕ, _<_}
+use Prim.Native.Nat.{ℕ, _*_, _<_}
 use mathlib.Core.Path.{_≡_, refl, sym, ap, _∙_}
 use mathlib.Core.Logic.{_↔_}
 use mathlib.Core.Bool.{true, false, not, false≢true}
 use mathlib.Core.List.{List, _++_, List·Memᴰ·head, List·Memᴰ·tail}
+use native.Mathlib.Omega.{arith}
+use lib.ListN.{length}
 use borrow.Author.Tests.{not-false, not-true}
 use lib.Dec.{ltb}
 use Rattle.wellfounded.specs.Lists.{all}
 use Rattle.wellfounded.specs.Literals.{isHeld, valueAt}
-use Rattle.wellfounded.specs.Stages.{wellFoundedModel, stagesOf}
+use Rattle.wellfounded.specs.Stages.{wellFoundedModel, stagesOf, TwoValued}
+use Rattle.wellfounded.specs.Levels.{Obeys}
 use Rattle.wellfounded.proofs.Tests.{clash}
 use Rattle.wellfounded.proofs.Closure.{model-length, stages-length}
 use Rattle.wellfounded.proofs.Theorems.{complete}
@@ -20,10 +23,11 @@ use Rattle.tables.specs.declared.Fault.the-variants.{Undecided}
 use Rattle.tables.specs.declared.Verdict.{Verdict}
 use Rattle.tables.specs.declared.Verdict.the-variants.{Accepted, Refused}
 use Rattle.tables.specs.Faults.{Absent, firstFault, lowest, numberOf, faultNumber}
-use Rattle.tables.specs.Sound.{Tables, bookOf, Slice, claimSlices, sliceTest, lentTests, Sound}
+use Rattle.tables.specs.Sound.{Tables, groupOf, bookOf, groupLevels, Slice, claimSlices, sliceTest, lentTests, Sound}
 use Rattle.satisfaction.specs.Satisfied.{clauseTest, loadTest, satisfactionTests}
 use Rattle.tables.proofs.Faults.{lowest-at, lowest-found, first-passes, first-fails, absent-none, absent-more, accepted-absent, absent-accepted, refused-among, first-append, first-append-refused}
-use Rattle.tables.proofs.RowLaws.{book-size}
+use Rattle.tables.proofs.GroupLaws.{one-group, whole-part}
+use Rattle.tables.proofs.RowLaws.{group-size, book-size}
 use Rattle.tables.proofs.SoundTables.{slices-absent, sized-none, sized-more, lent-tables, lent-marks, lent-none}
 use Rattle.satisfaction.proofs.Satisfied.{absent-satisfies, satisfies-absent}
 use Rattle.checker.specs.Check.{checkOf}
@@ -124,6 +128,15 @@ module _ (t : Tables) (o v l w : List ℕ) where
 
 -- ── The model and its verdict ──
 
+-- All groups of a book have its atoms, so that values are two-valued for each if they are for one.
+pub two-valued : (t : Tables) (group : ℕ) {values : List ℕ} → TwoValued (bookOf t) values → TwoValued (groupOf t group) values
+unfolding bookOf
+two-valued t group two =
+    record {
+      size = two .size ∙ group-size t 0 ∙ sym (group-size t group);
+      held = λ atom l. two .held atom (rw group-size (rw group-size at l));
+    }
+
 module _ (t : Tables) (o : List ℕ) where
   pub accepted-good : firstFault (modelTests t (wellFoundedModel (bookOf t) o)) ≡ Accepted → Good t o
   unfolding modelTests undecidedTest notHeld
@@ -143,16 +156,24 @@ module _ (t : Tables) (o : List ℕ) where
       absent-accepted _
       (absent-more (record { nowhere = λ a l. ap not (good .twoValued .held a (rw book-size l)) }) (satisfies-absent t _ (good .satisfied)))
 
-  -- The check accepts a good model with its stages.
+  -- The check accepts a good model with its stages, which are the levels of the only group.
   pub good-checked :
       Good t o → {others : List Slice} → Sound t others →
       numberOf (checkOf t (wellFoundedModel (bookOf t) o) (stagesOf (bookOf t) o)) ≡ 0
+  unfolding bookOf
   good-checked good {others} sound =
       accepted-exactly t (wellFoundedModel (bookOf t) o) (stagesOf (bookOf t) o)
       (record { none = lent-none t _ (lent-tables t others (sound .none)) slices (lent-marks t others (sound .none)) }) .1
-      (record { twoValued = good .twoValued; obeys = complete (bookOf t) o (good .twoValued); satisfies = good .satisfied })
+      (record { twoValued = λ group. two-valued t group (good .twoValued); obeys = λ group l. obeys group (omega (arith, one-group (t .rules))); satisfies = good .satisfied })
     where
+      long : length (stagesOf (bookOf t) o) ≡ t .atoms
+      long = stages-length (bookOf t) o ∙ book-size t
+
       slices : Absent (sliceTest (claimSlices t (wellFoundedModel (bookOf t) o) (stagesOf (bookOf t) o)))
       slices =
           slices-absent _
-          (sized-more (model-length (bookOf t) o ∙ book-size t) (sized-more (stages-length (bookOf t) o ∙ book-size t) sized-none))
+          (sized-more (model-length (bookOf t) o ∙ book-size t)
+          (sized-more (long ∙ rw one-group (omega arith)) sized-none))
+
+      obeys : (group : ℕ) → group ≡ 0 → Obeys (groupOf t group) (wellFoundedModel (bookOf t) o) (groupLevels (t .atoms) (stagesOf (bookOf t) o) group)
+      obeys group e = rw (e, whole-part (t .atoms) (stagesOf (bookOf t) o) long) (complete (bookOf t) o (good .twoValued))

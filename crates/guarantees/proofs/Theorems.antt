@@ -5,7 +5,7 @@ use Prim.Native.Nat.{ℕ, _≤_, _<_}
 use mathlib.Core.Path.{_≡_, refl, sym, ap, _∙_}
 use mathlib.Core.Logic.{_↔_}
 use mathlib.Core.Bool.{true, false, false≢true}
-use mathlib.Core.List.{List, _++_}
+use mathlib.Core.List.{List, [], _++_}
 use Rattle.wellfounded.specs.Literals.{isHeld, valueAt}
 use Rattle.wellfounded.specs.Stages.{wellFoundedModel, stageOf, Setting, SameSetting}
 use Rattle.wellfounded.specs.Levels.{levelAt}
@@ -17,68 +17,96 @@ use Rattle.tables.specs.declared.Fault.the-variants.{Undecided}
 use Rattle.tables.specs.declared.Verdict.{Verdict}
 use Rattle.tables.specs.declared.Verdict.the-variants.{Accepted, Refused}
 use Rattle.tables.specs.Faults.{Absent, firstFault, numberOf, positionOf, faultNumber, RefusedBy}
-use Rattle.tables.specs.Rows.{headsRule, isDeclared}
-use Rattle.tables.specs.Sound.{Tables, bookOf, Sound}
+use Rattle.tables.specs.Rows.{groupCount, headsRule, isDeclared}
+use Rattle.tables.specs.Sound.{Tables, groupOf, bookOf, groupLevels, Sound}
 use Rattle.tables.proofs.Faults.{refused-by, by-refused}
+use Rattle.tables.proofs.GroupLaws.{some-group}
 use Rattle.tables.proofs.Numbers.{zero-accepted, number-refused}
 use Rattle.checker.specs.Check.{checkOf}
 use Rattle.checker.proofs.Theorems
 use Rattle.evaluator.specs.Evaluate.{settingTest, modelTests, modelFault, isMade, Evaluation, evaluated, evaluateOf, Answers}
 use Rattle.evaluator.proofs.SettingFault.{setting-absent, absent-setting, absent-zeros}
-use Rattle.guarantees.specs.Settings.{LentSetting, makerSlices, stopTests, FalseAtOne, Good, Made, Unwritten, MadeAndChecked}
+use Rattle.guarantees.specs.Settings.{LentSetting, makerSlices, stopTests, FalseAtOne, GoodIn, EveryModel, Good, Made, Unwritten, MadeAndChecked}
 use Rattle.guarantees.proofs.Making.{undecided-at, lent-passes, passed-made, refused-stopped, verdict-is, stopped-by, made-by}
 use Rattle.guarantees.proofs.Making.{accepted-good, good-accepted, good-checked}
+use Rattle.guarantees.proofs.EveryModel.{stagesOfAll, claimed-models, models-claimed}
 use Rattle.guarantees.proofs.Withdrawn.{ruleless-false, declared-defined, headless-ruleless}
 
--- ── Demand 3, of accepted claims ──
+-- ── Demand 3, of accepted claims: each group is a definition of its own ──
 
-module _ (t : Tables) (values levels : List ℕ) (accepted : numberOf (checkOf t values levels) ≡ 0) where
-  -- An accepted claim has a setting: its open facts hold only 0 and 1.
-  pub accepted-setting : Setting (bookOf t) values
+module _ (t : Tables) (values levels : List ℕ) (accepted : numberOf (checkOf t values levels) ≡ 0) (group : ℕ)
+    (below : group < groupCount (t .rules)) where
+  -- An accepted claim has a setting of the group: the facts that are open there hold only 0 and 1.
+  pub accepted-setting : Setting (groupOf t group) values
   accepted-setting =
-      record { given = λ a h. Theorems.accepted-right t values levels accepted .twoValued .held a (open-below (bookOf t) a h) }
+      record { given = λ a h. Theorems.accepted-right t values levels accepted .twoValued group .held a (open-below (groupOf t group) a h) }
 
-  -- For every setting that it has, its values are those of the well-founded model,
-  pub accepted-model : (o : List ℕ) → SameSetting (bookOf t) o values → wellFoundedModel (bookOf t) o ≡ values
-  accepted-model = Theorems.accepted-model t values levels accepted
+  -- For every setting that it has, its values are those of the group's well-founded model,
+  pub accepted-model : (o : List ℕ) → SameSetting (groupOf t group) o values → wellFoundedModel (groupOf t group) o ≡ values
+  accepted-model = Theorems.accepted-model t values levels accepted group below
 
   -- and that model is two-valued and satisfies all clauses and load lines.
-  pub accepted-is-good : (o : List ℕ) → SameSetting (bookOf t) o values → Good t o
+  pub accepted-is-good : (o : List ℕ) → SameSetting (groupOf t group) o values → GoodIn t group o
   accepted-is-good o has =
       record {
-        twoValued = Theorems.accepted-two-valued t values levels accepted o has;
-        satisfied = Theorems.accepted-satisfied t values levels accepted o has;
+        twoValued = Theorems.accepted-two-valued t values levels accepted group below o has;
+        satisfied = Theorems.accepted-satisfied t values levels accepted group below o has;
       }
 
   -- No level is below its atom's stage: no accepted claim decides an atom before its stage.
-  pub accepted-levels : (o : List ℕ) → SameSetting (bookOf t) o values → (atom : ℕ) → stageOf (bookOf t) o atom ≤ levelAt levels atom
-  accepted-levels = Theorems.accepted-levels t values levels accepted
+  pub accepted-levels :
+      (o : List ℕ) → SameSetting (groupOf t group) o values → (atom : ℕ) →
+      stageOf (groupOf t group) o atom ≤ levelAt (groupLevels (t .atoms) levels group) atom
+  accepted-levels = Theorems.accepted-levels t values levels accepted group below
 
--- Two accepted claims on one book that agree on the open facts agree everywhere, whatever their levels.
+-- Two accepted claims on one book that agree on the facts that are open in one group agree everywhere, whatever the other groups and all
+-- levels are.
 pub accepted-agree :
     (t : Tables) (v l w m : List ℕ) → numberOf (checkOf t v l) ≡ 0 → numberOf (checkOf t w m) ≡ 0 →
-    SameSetting (bookOf t) v w → v ≡ w
+    (group : ℕ) → group < groupCount (t .rules) → SameSetting (groupOf t group) v w → v ≡ w
 accepted-agree = Theorems.accepted-unique
 
--- Where the model for a setting is not two-valued, or fails a clause or load line, every claim with that setting is refused,
+-- On sound tables there are levels with which values are accepted exactly if the values are every group's two-valued well-founded model and
+-- satisfy all clauses and load lines.
+pub accepted-with-levels :
+    (t : Tables) (values : List ℕ) → Sound t [] →
+    ((levels : List ℕ) × (numberOf (checkOf t values levels) ≡ 0)) ↔ EveryModel t values
+accepted-with-levels t values sound = (
+  λ claim. claimed-models t values (claim .0) (claim .1),
+  λ models. (stagesOfAll t values, models-claimed t values sound models),
+)
+
+-- Where a group's model for a setting is not two-valued, or fails a clause or load line, every claim with that setting is refused,
 -- whatever its other values and its levels, and whether or not the tables are sound.
+pub group-refused :
+    (t : Tables) (group : ℕ) (o values levels : List ℕ) → group < groupCount (t .rules) → (GoodIn t group o → ⊥) →
+    SameSetting (groupOf t group) o values → numberOf (checkOf t values levels) ≡ 0 → ⊥
+group-refused t group o values levels below bad has accepted = bad (accepted-is-good t values levels accepted group below o has)
+
+-- The same of group 0, in the words of the makers' promises.
 pub others-refused :
     (t : Tables) (o values levels : List ℕ) → (Good t o → ⊥) → SameSetting (bookOf t) o values →
     numberOf (checkOf t values levels) ≡ 0 → ⊥
-others-refused t o values levels bad has accepted = bad (accepted-is-good t values levels accepted o has)
+unfolding bookOf
+others-refused t o values levels bad has =
+    group-refused t 0 o values levels (some-group (t .rules))
+    (λ good. bad (record { twoValued = good .twoValued; satisfied = good .satisfied })) has
 
 -- ── Withdrawn rules ──
 
--- A declared atom that heads no rule, for every content of the tables.
-module _ (t : Tables) (atom : ℕ) (below : atom < t .atoms) (declared : isDeclared (t .marks) atom ≡ true) (none : headsRule (t .rules) atom ≡ false) where
+-- A declared atom that heads no rule of group 0, for every content of the tables.
+module _ (t : Tables) (atom : ℕ) (below : atom < t .atoms) (declared : isDeclared (t .marks) atom ≡ true) (none : headsRule (t .rules) 0 atom ≡ false) where
   -- It is false at stage 1 whatever the setting: striking its rules does not make it open.
   pub withdrawn-false : (o : List ℕ) → FalseAtOne (bookOf t) o atom
   withdrawn-false o = ruleless-false (bookOf t) o atom (declared-defined t atom below declared) (headless-ruleless t atom none)
 
   -- No claim in which it is true is accepted,
   pub withdrawn-claimed : (values levels : List ℕ) → numberOf (checkOf t values levels) ≡ 0 → valueAt values atom ≡ 0
+  unfolding bookOf
   withdrawn-claimed values levels accepted =
-      ap (λ (v : List ℕ). valueAt v atom) (sym (accepted-model t values levels accepted values (same-setting-refl (bookOf t) values))) ∙ withdrawn-false values .inModel
+      ap (λ (v : List ℕ). valueAt v atom)
+      (sym (accepted-model t values levels accepted 0 (some-group (t .rules)) values (same-setting-refl (bookOf t) values)))
+      ∙ withdrawn-false values .inModel
 
   -- and open values that set it are refused.
   pub withdrawn-unset : (o : List ℕ) → Absent (settingTest (bookOf t) o) → valueAt o atom ≡ 0
@@ -130,10 +158,10 @@ module _ (t : Tables) (o v l w : List ℕ) (sound : Sound t (makerSlices t o v l
 
   -- and exactly then the check accepts the maker's claim.
   pub made-claim-exactly : (numberOf (checkOf t (evaluateOf t o v l w .values) (evaluateOf t o v l w .levels)) ≡ 0) ↔ Good t o
-  unfolding evaluated
+  unfolding evaluated bookOf
   made-claim-exactly =
       rw is-evaluated (
-        λ zero. let right = Theorems.accepted-right t _ _ zero in record { twoValued = right .twoValued; satisfied = right .satisfies },
+        λ zero. let right = Theorems.accepted-right t _ _ zero in record { twoValued = right .twoValued 0; satisfied = right .satisfies },
         λ good. good-checked t o good sound,
       )
 

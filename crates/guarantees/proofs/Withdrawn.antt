@@ -3,7 +3,7 @@
 use Prim.Native.Nat.{ℕ, _<_}
 use mathlib.Core.Path.{_≡_, refl, sym, ap, _∙_}
 use mathlib.Core.Logic.{inr}
-use mathlib.Core.Bool.{true, false}
+use mathlib.Core.Bool.{true, false, _&&_}
 use mathlib.Core.List.{List, List·Memᴰ}
 use native.Mathlib.Omega.{arith}
 use lib.Dec.{eqb}
@@ -12,14 +12,14 @@ use Rattle.wellfounded.specs.Literals.{isFalse, isHeld, valueAt}
 use Rattle.wellfounded.specs.Definitions.{Rule, Definition, isDefined}
 use Rattle.wellfounded.specs.Unfounded.{Unfounded}
 use Rattle.wellfounded.specs.Stages.{stage, wellFoundedModel}
-use Rattle.wellfounded.proofs.Tests.{clash}
+use Rattle.wellfounded.proofs.Tests.{clash, both}
 use Rattle.wellfounded.proofs.Lists.{anyBelow-make}
 use Rattle.wellfounded.proofs.Literals.{false-value, false-held}
 use Rattle.wellfounded.proofs.Closure.{model-keeps, stageOf-least}
 use Rattle.wellfounded.proofs.Theorems.{largest-holds-all, stage-follows, stage-of-range}
-use Rattle.tables.specs.Rows.{ruleCount, ruleHead, ruleAt, headsRule, isDeclared}
+use Rattle.tables.specs.Rows.{ruleCount, ruleHead, ruleAt, inGroup, headsRule, isDeclared}
 use Rattle.tables.specs.Sound.{Tables, bookOf}
-use Rattle.tables.proofs.RowLaws.{defined-exactly, book-rows}
+use Rattle.tables.proofs.RowLaws.{defined-exactly, group-has}
 use Rattle.guarantees.specs.Settings.{FalseAtOne}
 
 module _ (d : Definition) (o : List ℕ) (atom : ℕ) (defined : isDefined d atom ≡ true)
@@ -45,12 +45,14 @@ module _ (d : Definition) (o : List ℕ) (atom : ℕ) (defined : isDefined d ato
 
 module _ (t : Tables) (atom : ℕ) where
   pub declared-defined : atom < t .atoms → isDeclared (t .marks) atom ≡ true → isDefined (bookOf t) atom ≡ true
-  unfolding isDeclared
-  declared-defined below declared = defined-exactly t atom below .1 (inr (eqb-true _ _ declared))
+  unfolding isDeclared bookOf
+  declared-defined below declared = defined-exactly t 0 atom below .1 (inr (refl, eqb-true _ _ declared))
 
-  pub headless-ruleless : headsRule (t .rules) atom ≡ false → (r : Rule) → List·Memᴰ r (bookOf t .rules) → r .head ≡ atom → ⊥
-  unfolding headsRule ruleAt
+  pub headless-ruleless : headsRule (t .rules) 0 atom ≡ false → (r : Rule) → List·Memᴰ r (bookOf t .rules) → r .head ≡ atom → ⊥
+  unfolding headsRule ruleAt bookOf
   headless-ruleless none r m head =
-      let row = book-rows t .ruleRow m in
-      let same : ruleHead (t .rules) (row .0) ≡ atom = ap (λ (x : Rule). x .head) (sym (row .2)) ∙ head in
-      clash (anyBelow-make (ruleCount (t .rules)) (λ k. eqb (ruleHead (t .rules) k) atom) (row .0) (row .1) (eq-eqb _ _ same)) none
+      let row = group-has t 0 .ruleRow m in
+      let same : ruleHead (t .rules) (row .0) ≡ atom = ap (λ (x : Rule). x .head) (sym (row .3)) ∙ head in
+      clash
+      (anyBelow-make (ruleCount (t .rules)) (λ k. eqb (ruleHead (t .rules) k) atom && inGroup (t .rules) 0 k) (row .0) (row .1)
+      (both _ _ (eq-eqb _ _ same) (row .2))) none

@@ -1,5 +1,5 @@
 -- The words in which the meaning of an accepted claim is promised (demand 3 of the paper), what the maker leaves, and what a withdrawn rule leaves.
-use Prim.Native.Nat.{ℕ}
+use Prim.Native.Nat.{ℕ, _<_}
 use mathlib.Core.Path.{_≡_}
 use mathlib.Core.Logic.{_↔_}
 use mathlib.Core.Bool.{true}
@@ -10,7 +10,8 @@ use Rattle.wellfounded.specs.Definitions.{Definition, isDefined}
 use Rattle.wellfounded.specs.Stages.{stage, closure, wellFoundedModel, stageOf, stagesOf, TwoValued, Setting}
 use Rattle.tables.specs.declared.Verdict.{Verdict}
 use Rattle.tables.specs.Faults.{Test, numberOf}
-use Rattle.tables.specs.Sound.{Tables, bookOf, Slice, Sound}
+use Rattle.tables.specs.Rows.{groupCount}
+use Rattle.tables.specs.Sound.{Tables, groupOf, bookOf, Slice, Sound}
 use Rattle.satisfaction.specs.Satisfied.{Satisfies}
 use Rattle.evaluator.specs.Evaluate.{evaluationSlices, refusalTests, Evaluation, evaluateOf, Answers}
 use Rattle.checker.specs.Check.{checkOf}
@@ -34,10 +35,22 @@ pub record FalseAtOne (d : Definition) (o : List ℕ) (atom : ℕ) : Type 0 wher
   pub inModel : valueAt (wellFoundedModel d o) atom ≡ 0
   pub itsStage : stageOf d o atom ≡ 1
 
--- The well-founded model for the setting is two-valued and satisfies all clauses and load lines.
+-- A group's well-founded model for the setting is two-valued and satisfies all clauses and load lines.
+pub record GoodIn (t : Tables) (group : ℕ) (o : List ℕ) : Type 0 where
+  pub twoValued : TwoValued (groupOf t group) (wellFoundedModel (groupOf t group) o)
+  pub satisfied : Satisfies t (wellFoundedModel (groupOf t group) o)
+
+-- The same of group 0, which is the whole definition of a book that has no other group.
 pub record Good (t : Tables) (o : List ℕ) : Type 0 where
   pub twoValued : TwoValued (bookOf t) (wellFoundedModel (bookOf t) o)
   pub satisfied : Satisfies t (wellFoundedModel (bookOf t) o)
+
+-- Values are every group's well-founded model for the group's open atoms, which is two-valued, and satisfy all clauses and load
+-- lines. (All groups have the book's atoms, so that being two-valued is the same for each.)
+pub record EveryModel (t : Tables) (values : List ℕ) : Type 0 where
+  pub twoValued : (group : ℕ) → TwoValued (groupOf t group) values
+  pub isModel : (group : ℕ) → group < groupCount (t .rules) → wellFoundedModel (groupOf t group) values ≡ values
+  pub satisfied : Satisfies t values
 
 -- Values hold the well-founded model, levels hold the stages, work is all 0, and rounds is the closure number.
 pub record Made (t : Tables) (o : List ℕ) (e : Evaluation) : Type 0 where

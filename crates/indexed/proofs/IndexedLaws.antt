@@ -20,7 +20,7 @@ use Rattle.tables.specs.declared.Verdict.the-variants.{Accepted, Refused}
 use Rattle.tables.specs.Limits.{maxAtoms}
 use Rattle.tables.specs.Faults.{lowest, Test, Absent, firstFault}
 use Rattle.tables.specs.Rows.{ruleCount, ruleHead, definitionOf}
-use Rattle.tables.specs.Sound.{Tables, bookOf, tableTests, Slice, isSized, sliceTest, markCountTest, markTest, lentTests}
+use Rattle.tables.specs.Sound.{Tables, groupOf, bookOf, tableTests, Slice, isSized, sliceTest, markCountTest, markTest, lentTests}
 use Rattle.tables.specs.internal.Definitions.{HasRows}
 use Rattle.tables.specs.internal.Marks.{isMarked, TellsDefined}
 use Rattle.tables.specs.internal.Scans.{ClausesScannable, LoadsScannable}
@@ -101,10 +101,10 @@ module _ {rules literals marks setting values levels work starts entries counts 
   pub marks-fit : length marks ≤ maxAtoms
   marks-fit = omega (arith, can .few, can .marksLong)
 
-  module _ {defined : List ℕ} (marked : TellsDefined rules marks maxAtoms defined) where
+  module _ {defined : List ℕ} (marked : TellsDefined rules marks 0 maxAtoms defined) where
     tells : (atom : ℕ) → atom < length setting → isMarked defined atom ≡ isDefined itsBook atom
     unfolding ruled
-    tells = defined-tell (length setting) rules literals marks (can .marksLong) marked
+    tells = defined-tell (length setting) rules literals marks 0 (can .marksLong) marked
 
     -- and by them the setting is searched for 21.
     pub setting-fits : length setting ≤ length defined
@@ -253,8 +253,8 @@ module _ (t : Tables) (s : IndexedSlices) where
         }
 
     same-book : ruled (t .rules) (t .literals) (t .marks) (s .setting) ≡ bookOf t
-    unfolding ruled bookOf
-    same-book = ap (λ (n : ℕ). definitionOf n (t .rules) (t .literals) (t .marks)) long
+    unfolding ruled bookOf groupOf
+    same-book = ap (λ (n : ℕ). definitionOf n (t .rules) (t .literals) (t .marks) 0) long
 
     module _ (verdict₂ : Verdict) (rounds : ℕ) (values levels work starts entries counts : List ℕ)
         (followed : Followed (ruled (t .rules) (t .literals) (t .marks) (s .setting)) (t .rules) (t .literals) (s .setting) (s .values) (s .levels)

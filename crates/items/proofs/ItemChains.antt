@@ -16,13 +16,12 @@ use Rattle.numerals.specs.declared.numbers.Number.the-variants.{Read, Refused}
 use Rattle.numerals.specs.declared.signed.Signed.the-variants.{Whole, Malformed}
 use Rattle.items.specs.declared.literals.Literal.the-variants.{Coded, NoLiteral}
 use Rattle.items.specs.declared.terms.Term.the-variants.{Weighed, NoTerm}
-use Rattle.items.specs.declared.pairs.Pair.the-variants.{Paired, NoPair}
 use Rattle.format.specs.Forms.{LiteralText, opening, space, closing, notWord}
-use Rattle.format.specs.Parse.{got, andThen, readNumber, readSigned, readNegated, readLiteral, readTerm, readPair}
+use Rattle.format.specs.Parse.{got, andThen, readNumber, readSigned, readNegated, readLiteral, readTerm}
 use Rattle.format.specs.Words.{startsWith, wordAt}
 use Rattle.numerals.specs.internal.Offsets.{capped, clamped, numberAt, signedAt}
 use Rattle.items.specs.Items.{codeOf}
-use Rattle.items.specs.internal.Places.{cappedCode, answeredLiteral, negatedAt, literalAt, answeredTerm, termReadAt, answeredPair, pairAt}
+use Rattle.items.specs.internal.Places.{cappedCode, answeredLiteral, negatedAt, literalAt, answeredTerm, termReadAt}
 use Rattle.numerals.proofs.CappedLaws.{clamped-fits}
 use Rattle.numerals.proofs.OffsetLaws.{number-beyond}
 use Rattle.items.proofs.ItemLaws.{GotAt, number-got, number-none-read, signed-got, signed-none, literal-got, literal-none}
@@ -147,53 +146,4 @@ module _ (text : List ℕ) (at : ℕ) where
                 offset-left text (next + 1) (omega (arith, l .1)),
                 ← weighed-got .1,
                 ← coded-got .1,
-              )
-
--- A pair `(V K)`.
-module _ (text : List ℕ) (at : ℕ) where
-  pub pair-unopened : wordAt text at (opening ∷ []) ≡ false → pairAt text at ≡ NoPair
-  unfolding pairAt answeredPair readPair andThen
-  pair-unopened f = rw (byte-none text at opening f)
-
-  module _ (opened : wordAt text at (opening ∷ []) ≡ true) where
-    pub pair-valueless : numberAt text (at + 1) ≡ Refused → pairAt text at ≡ NoPair
-    unfolding pairAt answeredPair readPair andThen
-    pair-valueless e = rw (byte-got text at opening opened .0, number-none-read text (at + 1) e)
-
-    module _ {value after : ℕ} (valued : numberAt text (at + 1) ≡ Read value after) where
-      valued-got : (n : ℕ) × (value ≡ capped n) × GotAt readNumber text (at + 1) after n
-      valued-got = number-got (omega (arith, byte-got text at opening opened .1)) valued
-
-      pub pair-unspaced : wordAt text after (space ∷ []) ≡ false → pairAt text at ≡ NoPair
-      unfolding pairAt answeredPair readPair andThen
-      pair-unspaced f = rw (byte-got text at opening opened .0, valued-got .2 .reads, byte-none text after space f)
-
-      module _ (spaced : wordAt text after (space ∷ []) ≡ true) where
-        pub pair-levelless : numberAt text (after + 1) ≡ Refused → pairAt text at ≡ NoPair
-        unfolding pairAt answeredPair readPair andThen
-        pair-levelless e =
-            rw (byte-got text at opening opened .0, valued-got .2 .reads, byte-got text after space spaced .0, number-none-read text (after + 1) e)
-
-        module _ {level next : ℕ} (levelled : numberAt text (after + 1) ≡ Read level next) where
-          levelled-got : (n : ℕ) × (level ≡ capped n) × GotAt readNumber text (after + 1) next n
-          levelled-got = number-got (omega (arith, byte-got text after space spaced .1)) levelled
-
-          pub pair-unclosed : wordAt text next (closing ∷ []) ≡ false → pairAt text at ≡ NoPair
-          unfolding pairAt answeredPair readPair andThen
-          pair-unclosed f =
-              rw (byte-got text at opening opened .0, valued-got .2 .reads, byte-got text after space spaced .0, levelled-got .2 .reads, byte-none text next closing f)
-
-          pub pair-closed : wordAt text next (closing ∷ []) ≡ true → pairAt text at ≡ Paired value level (next + 1)
-          unfolding pairAt answeredPair readPair andThen
-          pair-closed t =
-              let l = byte-got text next closing t in
-              rw (
-                byte-got text at opening opened .0,
-                valued-got .2 .reads,
-                byte-got text after space spaced .0,
-                levelled-got .2 .reads,
-                l .0,
-                offset-left text (next + 1) (omega (arith, l .1)),
-                ← valued-got .1,
-                ← levelled-got .1,
               )

@@ -6,11 +6,13 @@ use mathlib.Core.Bool.{Bool, true, false}
 use mathlib.Core.List.{List, [], _∷_, _++_}
 use native.Mathlib.Omega.{arith}
 use lib.IntN.{ℤ}
-use lib.Dec.{ltb}
+use lib.Dec.{leb, ltb}
 use lib.ListN.{length, drop, length-drop, length-append}
 use lib.Seq.{drop-append-seam, drop-drop}
 use borrow.Author.Tests.{ltb-true, ltb-false}
+use Rattle.wellfounded.specs.Lists.{all}
 use Rattle.wellfounded.proofs.Tests.{clash}
+use Rattle.tables.specs.Limits.{maxLevel}
 use Rattle.numerals.specs.declared.numbers.Number.the-variants.{Read, Refused}
 use Rattle.numerals.specs.declared.signed.Signed.the-variants.{Whole, Malformed}
 use Rattle.items.specs.declared.literals.Literal.the-variants.{Coded, NoLiteral}
@@ -20,10 +22,12 @@ use Rattle.format.specs.Forms.{LiteralText, TermText, PairText, decimal, signed
 use Rattle.format.specs.Parse.{Reading, got, refused, skip, readNumber, readSigned, readLiteral, readTerm, readPair}
 use Rattle.format.specs.Words.{wordAt}
 use Rattle.numerals.specs.internal.Offsets.{capped, clamped, answered, numberAt, answeredSigned, signedAt}
+use Rattle.items.specs.Items.{levelIn}
 use Rattle.items.specs.internal.Places.{cappedCode, answeredLiteral, literalAt, answeredTerm, termReadAt, answeredPair, pairAt}
 use Rattle.format.proofs.Readings.{holds-use}
 use Rattle.format.proofs.WordLaws.{skipped, not-skipped, word-short}
-use Rattle.format.proofs.Pieces.{Inverse, number-inverse, signed-inverse, literal-inverse, term-inverse, pair-inverse}
+use Rattle.format.proofs.Pieces.{Inverse, number-inverse, signed-inverse, literal-inverse, term-inverse}
+use Rattle.format.proofs.Parts.{pair-inverse}
 
 -- Something was read at an offset, and what is left begins at the next one.
 pub record GotAt {A : Type 0} (reader : List ℕ → Reading A) (text : List ℕ) (at next : ℕ) (x : A) : Type 0 where
@@ -150,31 +154,37 @@ pub term-none : (text : List ℕ) (at : ℕ) → termReadAt text at ≡ NoTerm �
 unfolding termReadAt
 term-none text at e = term-refused text (readTerm (drop at text)) e
 
--- Pairs.
+-- Pairs, with what code keeps of their levels.
+pub record KeepsPair (p : PairText) (group value level levels : ℕ) (within : Bool) : Type 0 where
+  pub valued : value ≡ capped (p .value)
+  pub levelled : level ≡ capped (levelIn group p)
+  pub counted : levels ≡ length (p .levels)
+  pub tested : within ≡ all (λ k. leb k maxLevel) (p .levels)
+
 pair-answer :
-    (text : List ℕ) (r : Reading PairText) {value level next : ℕ} → answeredPair text r ≡ Paired value level next →
-    (p : PairText) × (rest : List ℕ) × (r ≡ got p rest) × (value ≡ capped (p .value)) × (level ≡ capped (p .level)) ×
-    (next ≡ length text - length rest)
+    (text : List ℕ) (group : ℕ) (r : Reading PairText) {value level levels next : ℕ} {within : Bool} → answeredPair text group r ≡ Paired value level levels within next →
+    (p : PairText) × (rest : List ℕ) × (r ≡ got p rest) × KeepsPair p group value level levels within × (next ≡ length text - length rest)
 unfolding answeredPair
-pair-answer text (got p rest) e = (p, rest, refl, (cc), (cc), (cc))
-pair-answer text refused e = let z : _≡_ {A = ℕ} 0 1 = cc in absurd (omega arith)
+pair-answer text group (got p rest) e =
+    (p, rest, refl, record { valued = cc; levelled = cc; counted = cc; tested = cc }, (cc))
+pair-answer text group refused e = let z : _≡_ {A = ℕ} 0 1 = cc in absurd (omega arith)
 
 pub pair-got :
-    {text : List ℕ} {at value level next : ℕ} → at ≤ length text → pairAt text at ≡ Paired value level next →
-    (p : PairText) × (value ≡ capped (p .value)) × (level ≡ capped (p .level)) × GotAt readPair text at next p
+    {text : List ℕ} {at : ℕ} (group : ℕ) {value level levels next : ℕ} {within : Bool} → at ≤ length text → pairAt text at group ≡ Paired value level levels within next →
+    (p : PairText) × KeepsPair p group value level levels within × GotAt readPair text at next p
 unfolding pairAt
-pair-got {text} {at} l e =
-    let a = pair-answer text (readPair (drop at text)) e in
-    (a .0, a .3, a .4, got-next pairBytes readPair pair-inverse l (a .2) (a .5))
+pair-got {text} {at} group l e =
+    let a = pair-answer text group (readPair (drop at text)) e in
+    (a .0, a .3, got-next pairBytes readPair pair-inverse l (a .2) (a .4))
 
-pair-refused : (text : List ℕ) (r : Reading PairText) → answeredPair text r ≡ NoPair → r ≡ refused
+pair-refused : (text : List ℕ) (group : ℕ) (r : Reading PairText) → answeredPair text group r ≡ NoPair → r ≡ refused
 unfolding answeredPair
-pair-refused text (got p rest) e = let z : _≡_ {A = ℕ} 0 1 = cc in absurd (omega arith)
-pair-refused text refused e = refl
+pair-refused text group (got p rest) e = let z : _≡_ {A = ℕ} 0 1 = cc in absurd (omega arith)
+pair-refused text group refused e = refl
 
-pub pair-none : (text : List ℕ) (at : ℕ) → pairAt text at ≡ NoPair → readPair (drop at text) ≡ refused
+pub pair-none : (text : List ℕ) (at group : ℕ) → pairAt text at group ≡ NoPair → readPair (drop at text) ≡ refused
 unfolding pairAt
-pair-none text at e = pair-refused text (readPair (drop at text)) e
+pair-none text at group e = pair-refused text group (readPair (drop at text)) e
 
 -- Words.
 module _ (text : List ℕ) (at : ℕ) where

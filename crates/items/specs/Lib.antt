@@ -1,3 +1,3 @@
--- Literals as they are stored. `internal` has literals, terms and claim pairs at an offset of a text.
+-- Literals and levels as they are stored. `internal` has literals, terms and claim pairs at an offset of a text.
 pub mod Items
 pub mod internal

@@ -20,16 +20,17 @@ use Rattle.judging.specs.declared.reached.Reached.{Reached}
 use Rattle.judging.specs.declared.reached.Space.{Space}
 use Rattle.judging.specs.declared.reached.Judged.{Judged}
 use Rattle.judging.specs.declared.reached.Judged.the-variants.{Passed, Failed}
-use Rattle.judging.specs.States.{nothingYet, atomsStood, openStood, start, advanced, after, countsWithin, fits}
-use Rattle.judging.specs.Judging.{atomBound, numbersWithin, withinLimits, mayFollow, partsInOrder, inOrder, lines, judgeLines, judgeText, maxBytes, formsFrom, formsOf}
+use Rattle.judging.specs.States.{nothingYet, atomsStood, openStood, start, phaseAfter, advanced, after, countsWithin, fits}
+use Rattle.judging.specs.Judging.{atomBound, numbersWithin, withinLimits, mayFollow, partsInOrder, inOrder, levelled, lines, judgeLines, judgeText, maxBytes, formsFrom, formsOf}
 use Rattle.judging.specs.Books.{afterAll, IsBook, BookText, passes, allPass, PassesUpTo}
 use Rattle.judging.proofs.Walking.{judge-passed, forms-all, WalkEnd, accepted, refusedAt, walked}
-use Rattle.judging.proofs.Sequences.{follows, may-follow, follows-here, follows-later, phase-on, follows-sequence, sequence-follows}
-use Rattle.judging.proofs.StateLaws.{start-limits, after-size}
+use Rattle.judging.proofs.Sequences.{follows, may-follow, follows-here, follows-later, phase-on, nothing-after, follows-sequence, sequence-follows}
+use Rattle.judging.proofs.StateLaws.{start-limits, after-size, groups-after}
 use Rattle.judging.proofs.Counts.{counts-before, start-fits, fits-before}
 
 -- What it is for a form to pass, part by part.
 pub record Passing (space : Space) (s : Reached) (f : Form) : Type 0 where
+  pub levels : levelled s f ≡ true
   pub numbers : numbersWithin s f ≡ true
   pub counts : countsWithin (after s f) ≡ true
   pub follows : mayFollow (kindIn f) (s .phase) ≡ true
@@ -40,10 +41,12 @@ module _ (space : Space) (s : Reached) (f : Form) where
   pub passing : passes space s f ≡ true → Passing space s f
   unfolding passes withinLimits inOrder
   passing h =
-      let limits = first (withinLimits s f) (inOrder s f && fits space (after s f)) h in
-      let later = second (withinLimits s f) (inOrder s f && fits space (after s f)) h in
+      let judged = second (levelled s f) _ h in
+      let limits = first (withinLimits s f) (inOrder s f && fits space (after s f)) judged in
+      let later = second (withinLimits s f) (inOrder s f && fits space (after s f)) judged in
       let order = first (inOrder s f) (fits space (after s f)) later in
       record {
+        levels = first (levelled s f) _ h;
         numbers = first (numbersWithin s f) (countsWithin (after s f)) limits;
         counts = second (numbersWithin s f) (countsWithin (after s f)) limits;
         follows = first (mayFollow (kindIn f) (s .phase)) (partsInOrder s f) order;
@@ -53,7 +56,7 @@ module _ (space : Space) (s : Reached) (f : Form) where
 
   pub passing-passes : Passing space s f → passes space s f ≡ true
   unfolding passes withinLimits inOrder
-  passing-passes p = simp (p .numbers, p .counts, p .follows, p .ordered, p .held)
+  passing-passes p = simp (p .levels, p .numbers, p .counts, p .follows, p .ordered, p .held)
 
 -- Once an atoms form stood, the number of atoms stays.
 size-after : (s : Reached) (f : Form) (fs : List Form) → atomsStood ≤ s .phase → follows s (f ∷ fs) ≡ true → s .size ≡ after s f .size
@@ -93,8 +96,21 @@ module _ (s t : Reached) (agree : atomsStood ≤ s .phase → s .size ≡ t .siz
       step true e = rw (agree (may-follow (kindIn f) (s .phase) h .later (rw (same-kind (kindIn f) Claim e))))
       step false e = rw e
 
--- The tests of numbers and of parts, in the state at the end.
+-- A form's levels are tested alike in its state and at the end: only a claim has levels, and it comes last and leaves the groups as they are.
+levels-same : (s : Reached) (f : Form) (fs : List Form) → follows s (f ∷ fs) ≡ true → levelled s f ≡ levelled (afterAll s (f ∷ fs)) f
+unfolding levelled all afterAll after advanced phaseAfter
+levels-same s f fs h = step (sameKind (kindIn f) Claim) refl
+  where
+    last : sameKind (kindIn f) Claim ≡ true → openStood ≤ after s f .phase
+    last e = rw (same-kind (kindIn f) Claim e) (omega arith)
+
+    step : (b : Bool) → sameKind (kindIn f) Claim ≡ b → levelled s f ≡ levelled (afterAll (after s f) fs) f
+    step true e = rw (nothing-after (after s f) fs (last e) (follows-later s f fs h), groups-after s f e)
+    step false e = rw (lists-by-kind f .noPairs e)
+
+-- The tests of levels, of numbers and of parts, in the state at the end.
 pub record Tested (s : Reached) (fs : List Form) : Type 0 where
+  pub levels : all (levelled (afterAll s fs)) fs ≡ true
   pub numbers : all (numbersWithin (afterAll s fs)) fs ≡ true
   pub ordered : all (partsInOrder (afterAll s fs)) fs ≡ true
 
@@ -119,13 +135,14 @@ module _ (space : Space) where
 
   passed-tested : (s : Reached) (fs : List Form) → follows s fs ≡ true → allPass space s fs ≡ true → Tested s fs
   unfolding allPass afterAll follows all
-  passed-tested s [] g h = record { numbers = refl; ordered = refl }
+  passed-tested s [] g h = record { levels = refl; numbers = refl; ordered = refl }
   passed-tested s (f ∷ fs) g h =
       let here = passing space s f (first (passes space s f) _ h) in
       let later = passed-tested (after s f) fs (second (mayFollow (kindIn f) (s .phase)) _ g) (second (passes space s f) _ h) in
       let end : atomsStood ≤ afterAll (after s f) fs .phase = omega (arith, follows-end s (f ∷ fs) g) in
       let agree : atomsStood ≤ s .phase → s .size ≡ afterAll (after s f) fs .size = (λ l. size-kept s (f ∷ fs) l g) in
       record {
+        levels = both _ _ (sym (levels-same s f fs g) ∙ here .levels) (later .levels);
         numbers = both _ _ (sym (numbers-same s _ agree end f (here .follows)) ∙ here .numbers) (later .numbers);
         ordered = both _ _ (sym (parts-same s _ agree end f (here .follows)) ∙ here .ordered) (later .ordered);
       }
@@ -141,9 +158,10 @@ module _ (space : Space) where
       let onwards = second (mayFollow (kindIn f) (s .phase)) _ g in
       let stood : atomsStood ≤ end .phase = omega (arith, follows-end s (f ∷ fs) g) in
       let agree : atomsStood ≤ s .phase → s .size ≡ afterAll (after s f) fs .size = (λ l. size-kept s (f ∷ fs) l g) in
-      let rest : Tested (after s f) fs = record { numbers = second (numbersWithin end f) _ (t .numbers); ordered = second (partsInOrder end f) _ (t .ordered) } in
+      let rest : Tested (after s f) fs = record { levels = second (levelled end f) _ (t .levels); numbers = second (numbersWithin end f) _ (t .numbers); ordered = second (partsInOrder end f) _ (t .ordered) } in
       both (passes space s f) _
       (passing-passes space s f (record {
+        levels = levels-same s f fs g ∙ first (levelled end f) _ (t .levels);
         numbers = numbers-same s end agree stood f may ∙ first (numbersWithin end f) _ (t .numbers);
         counts = counts-before (after s f) fs c;
         follows = may;
@@ -158,7 +176,7 @@ size-within :
 unfolding allPass passes afterAll
 size-within space s [] l h = l
 size-within space s (f ∷ fs) l h =
-    size-within space (after s f) fs (after-size s f l (first (withinLimits s f) _ (first (passes space s f) _ h))) (second (passes space s f) _ h)
+    size-within space (after s f) fs (after-size s f l (first (withinLimits s f) _ (second (levelled s f) _ (first (passes space s f) _ h)))) (second (passes space s f) _ h)
 
 pub passed-size : (space : Space) (fs : List Form) → PassesUpTo space fs → afterAll start fs .size ≤ maxAtoms
 unfolding start
@@ -172,6 +190,7 @@ module _ (space : Space) (fs : List Form) where
       let t = passed-tested space start fs g (p .passed) in
       record {
         sequence = follows-sequence fs g;
+        levels = t .levels;
         numbers = t .numbers;
         counts = passed-counts space start fs (p .passed) start-limits;
         ordered = t .ordered;
@@ -181,7 +200,7 @@ module _ (space : Space) (fs : List Form) where
   pub book-passed : IsBook space fs → PassesUpTo space fs × (openStood ≤ afterAll start fs .phase)
   book-passed b =
       let g = sequence-follows fs (b .sequence) in
-      let t : Tested start fs = record { numbers = b .numbers; ordered = b .ordered } in
+      let t : Tested start fs = record { levels = b .levels; numbers = b .numbers; ordered = b .ordered } in
       (record { passed = book-passes space start fs g t (b .counts) (b .held) }, follows-end start fs g)
 
 -- The accepted texts are the renderings of books.
@@ -196,7 +215,7 @@ module _ (space : Space) (text : List ℕ) where
           length text ≤ maxBytes → (j : Judged) → WalkEnd space text j → j ≡ Passed t →
           (fs : List Form) × BookText space text fs × (t ≡ afterAll start fs) × (formsFrom start (lines text) ≡ fs)
       found short j (accepted fs p whole l same) h =
-          (fs, record { rendered = whole; short = short; book = passed-book space fs p l }, cc, rw whole (forms-all start fs))
+          (fs, record { rendered = whole; short = short; book = passed-book space fs p l }, cc, rw whole (forms-all space start fs (p .passed)))
       found short j (refusedAt fault at why same) h = let z : _≡_ {A = ℕ} 0 1 = cc in absurd (omega arith)
 
       step :

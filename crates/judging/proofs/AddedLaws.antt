@@ -16,9 +16,10 @@ use Rattle.format.specs.Views.{kindNumber, sameKind}
 use Rattle.judging.specs.declared.reached.Reached.{Reached}
 use Rattle.judging.specs.declared.reached.Space.{Space}
 use Rattle.judging.specs.LentTables.{Rules, Literals, Clauses, Loads, LoadLiterals, Minutes, everyTable, roomIn}
-use Rattle.judging.specs.States.{openStood, claimStood, phaseAfter, advanced, countsWithin, valuesCounted, levelsCounted, countIn, fits}
+use Rattle.judging.specs.States.{openStood, claimStood, phaseAfter, advanced, countsWithin, groupsReached, valuesCounted, levelsCounted, countIn, fits}
 use Rattle.judging.specs.internal.Shapes.{added, CountsFit}
 use Rattle.judging.proofs.Counts.{CountsWithin, counts-within, fits-each}
+use Rattle.judging.proofs.StateLaws.{groups-claim}
 
 -- Each count is within its limit and has space in its table.
 module _ (space : Space) (s : Reached) (size parts : ℕ) (fitted : CountsFit space s) where
@@ -139,6 +140,7 @@ module _ (space : Space) (s : Reached) (size parts : ℕ) (fitted : CountsFit sp
       simp (add-zero, rulesFit, literalsFit, clausesFit, loadsFit, termsFit, minutesFit, noneFits (space .levels), and-true)
 
   pub claim-space :
-      (leb (s .size) (space .marks) && leb (s .size) (space .values) && leb (s .size) (space .levels)) ≡ fits space (added s Claim size parts)
+      {told : ℕ} → told ≡ s .size * groupsReached s →
+      (leb (s .size) (space .marks) && leb (s .size) (space .values) && leb told (space .levels)) ≡ fits space (added s Claim size parts)
   unfolding added advanced phaseAfter sameKind kindNumber fits everyTable countIn roomIn valuesCounted levelsCounted
-  claim-space = simp (add-zero, rulesFit, literalsFit, clausesFit, loadsFit, termsFit, minutesFit)
+  claim-space e = rw (groups-claim s size 0 0, e) (simp (add-zero, rulesFit, literalsFit, clausesFit, loadsFit, termsFit, minutesFit))

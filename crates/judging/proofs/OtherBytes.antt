@@ -125,7 +125,7 @@ other-refused space text at k =
       passing = k .passing;
       whole = k .whole;
       some = rw length-append (omega arith);
-      unread = λ f later e. no-form (render f) (k .front) (k .byte) (k .rest) later (render-bytes known written-known f) (k .oneLine) (k .other) e;
+      unread = λ f later h e. no-form (render f) (k .front) (k .byte) (k .rest) later (render-bytes known written-known f) (k .oneLine) (k .other) e;
       faultIs = refl;
       position = k .position;
     }))

@@ -1,6 +1,6 @@
 -- What a refusal says: the forms before its position pass, and the fault tells what comes there; and no full set of tables is refused for its space.
 -- Assumes nothing.
-use Prim.Native.Nat.{ℕ, _+_, _≤_, _<_}
+use Prim.Native.Nat.{ℕ, _+_, _*_, _≤_, _<_}
 use mathlib.Core.Path.{_≡_, refl, sym, ap, _∙_}
 use mathlib.Core.Bool.{Bool, true, false, cond}
 use mathlib.Core.List.{List, [], _∷_, _++_, append-nil}
@@ -19,12 +19,12 @@ use Rattle.judging.specs.declared.reached.Reached.{Reached}
 use Rattle.judging.specs.declared.reached.Space.{Space}
 use Rattle.judging.specs.declared.reached.Judged.{Judged}
 use Rattle.judging.specs.declared.reached.Judged.the-variants.{Failed}
-use Rattle.judging.specs.LentTables.{Table, fullSize}
-use Rattle.judging.specs.States.{openStood, start, after, countsWithin, fits, countIn}
-use Rattle.judging.specs.Judging.{withinLimits, inOrder, on, stop, judgeForm, lines, continued, judgeLines, judgeText, maxBytes}
+use Rattle.judging.specs.LentTables.{Table, Levels, fullSize}
+use Rattle.judging.specs.States.{openStood, start, after, countsWithin, groupsReached, fits, countIn}
+use Rattle.judging.specs.Judging.{withinLimits, inOrder, on, stop, judgeForm, levelled, ifLevelled, lines, continued, judgeLines, judgeText, maxBytes}
 use Rattle.judging.specs.Books.{afterAll, passes, allPass, PassesUpTo, NoRoom, FullSpace}
 use Rattle.judging.specs.Books.{FirstRefused, tooLong, noForm, notPassing, noState}
-use Rattle.judging.proofs.LineLaws.{line-formed, judge-line, judge-refused}
+use Rattle.judging.proofs.LineLaws.{levelled-got, line-formed, judge-line, judge-refused}
 use Rattle.judging.proofs.Walking.{after-more, judge-passed, WalkEnd, accepted, refusedAt, walked}
 use Rattle.judging.proofs.Counts.{counts-within, each-fits}
 use Rattle.judging.proofs.TableLaws.{each-table}
@@ -61,15 +61,19 @@ module _ (space : Space) (text : List ℕ) (fault : Fault) (at : ℕ) where
         let e : 0 + length (renderAll before) ≡ length (renderAll before) = omega arith in
         rw (le-leb (length text) maxBytes short, whole) (rw e at (judge-passed space start 0 before rest (p .passed)))
 
-  none-read : (rest : List ℕ) → ((f : Form) (later : List ℕ) → rest ≡ render f ++ (lineEnd ∷ later) → ⊥) → readLine rest ≡ refused
-  none-read rest none = step (readLine rest) refl
+  none-read :
+      (s : Reached) (rest : List ℕ) → ((f : Form) (later : List ℕ) → levelled s f ≡ true → rest ≡ render f ++ (lineEnd ∷ later) → ⊥) →
+      ifLevelled s (readLine rest) ≡ refused
+  none-read s rest none = step (ifLevelled s (readLine rest)) refl
     where
-      step : (r : Reading Form) → readLine rest ≡ r → r ≡ refused
-      step (got f later) e = absurd (none f later (line-formed rest f later e))
+      step : (r : Reading Form) → ifLevelled s (readLine rest) ≡ r → r ≡ refused
+      step (got f later) e =
+          let read = levelled-got s (readLine rest) f later e in
+          absurd (none f later (read .1) (line-formed rest f later (read .0)))
       step refused e = refl
 
   front-refused :
-      (s : Reached) (place : ℕ) (rest : List ℕ) → 0 < length rest → readLine rest ≡ refused →
+      (s : Reached) (place : ℕ) (rest : List ℕ) → 0 < length rest → ifLevelled s (readLine rest) ≡ refused →
       judgeLines space s place (lines rest) ≡ Failed Malformed place
   front-refused s place [] l none = absurd (omega arith)
   front-refused s place (b ∷ bs) l none = judge-refused space s place b bs none
@@ -80,10 +84,10 @@ module _ (space : Space) (text : List ℕ) (fault : Fault) (at : ℕ) where
   first-refused (tooLong k) = rw (lt-leb (length text) maxBytes (k .long), k .faultIs, k .position)
   first-refused (noForm k) =
       judged-after (k .short) (k .before) (k .rest) (k .passing) (k .whole)
-      ∙ (front-refused _ _ (k .rest) (k .some) (none-read (k .rest) (k .unread)) ∙ rw (k .faultIs, k .position))
+      ∙ (front-refused _ _ (k .rest) (k .some) (none-read _ (k .rest) (k .unread)) ∙ rw (k .faultIs, k .position))
   first-refused (notPassing k) =
       judged-after (k .short) (k .before) _ (k .passing) (k .whole)
-      ∙ (judge-line space (afterAll start (k .before)) (length (renderAll (k .before))) (k .form) (k .rest) ∙ rw (k .stopped, k .position))
+      ∙ (judge-line space (afterAll start (k .before)) (length (renderAll (k .before))) (k .form) (k .rest) (k .levels) ∙ rw (k .stopped, k .position))
   first-refused (noState k) =
       judged-after (k .short) (k .forms) [] (k .passing) (k .whole ∙ sym (append-nil (renderAll (k .forms))))
       ∙ rw (lt-leb openStood (afterAll start (k .forms) .phase) (k .missing), k .faultIs, k .position, k .whole)
@@ -150,6 +154,7 @@ module _ (space : Space) (text : List ℕ) (at : ℕ) where
             passing = k .passing;
             whole = k .whole;
             position = k .position;
+            levels = k .levels;
             within = why .0;
             ordered = why .1;
             full = rw (after-more start (k .before) (k .form)) (why .2);
@@ -165,17 +170,22 @@ module _ (space : Space) (text : List ℕ) (at : ℕ) where
         rest = k .rest;
         passing = k .passing;
         whole = k .whole;
+        levels = k .levels;
         stopped = form-no-space space (afterAll start (k .before)) (k .form) (k .within) (k .ordered) (rw (after-more start (k .before) (k .form)) at (k .full));
         position = k .position;
       }))
 
 -- What is counted within the limits of a book has its place in a table of full size.
+levels-full : (s : Reached) → s .size ≤ maxAtoms → s .size * groupsReached s ≤ fullSize Levels
+unfolding groupsReached fullSize
+levels-full s l = omega arith
+
 counts-full : (s : Reached) → countsWithin s ≡ true → s .size ≤ maxAtoms → (table : Table) → countIn s table ≤ fullSize table
 unfolding countIn fullSize
 counts-full s c l =
     let n = counts-within s c in
     each-table (λ table. countIn s table ≤ fullSize table) (n .rules) (n .literals) (n .clauses) (n .loads) (n .terms) (n .terms)
-    (omega (arith, values-few s)) (omega (arith, values-few s)) (omega (arith, levels-few s))
+    (omega (arith, values-few s)) (omega (arith, values-few s)) (omega (arith, levels-few s, levels-full s l))
 
 module _ (space : Space) where
   full-held : (s : Reached) → FullSpace space → countsWithin s ≡ true → s .size ≤ maxAtoms → fits space s ≡ true

@@ -94,7 +94,7 @@ module _ (s : Reached) (f : Form) (fs : List Form) (h : follows s (f ∷ fs) ≡
   phase-on = follows-here .onwards
 
 -- Nothing may follow a state form.
-nothing-after : (s : Reached) (fs : List Form) → openStood ≤ s .phase → follows s fs ≡ true → fs ≡ []
+pub nothing-after : (s : Reached) (fs : List Form) → openStood ≤ s .phase → follows s fs ≡ true → fs ≡ []
 nothing-after s [] l h = refl
 nothing-after s (f ∷ fs) l h = let here = follows-here s f fs h in absurd (omega arith)
 

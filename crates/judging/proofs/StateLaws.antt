@@ -1,6 +1,6 @@
 -- Laws of the states that lines reach: they stay within the limits of a book, and what a form that was judged well says of the state after it.
 -- Assumes nothing.
-use Prim.Native.Nat.{ℕ, _≤_, _<_}
+use Prim.Native.Nat.{ℕ, _*_, _≤_, _<_}
 use mathlib.Core.Path.{_≡_, refl}
 use mathlib.Core.Bool.{Bool, true, false, cond, _||_}
 use native.Mathlib.Omega.{arith}
@@ -13,11 +13,12 @@ use Rattle.format.specs.declared.kinds.Kind.{Kind}
 use Rattle.format.specs.declared.kinds.Kind.the-variants.{Atoms, Rule, Clause, Load, Open, Claim, Defined, Unknown}
 use Rattle.format.specs.Forms.{Form}
 use Rattle.format.specs.Views.{viewOf, kindIn, kindNumber, sameKind}
+use Rattle.format.proofs.ViewLaws.{same-kind}
 use Rattle.judging.specs.declared.reached.Reached.{Reached}
 use Rattle.judging.specs.declared.reached.Space.{Space}
-use Rattle.judging.specs.States.{nothingYet, openStood, claimStood, start, phaseAfter, advanced, after, countsWithin, valuesCounted, levelsCounted, fits}
+use Rattle.judging.specs.States.{nothingYet, openStood, claimStood, start, phaseAfter, advanced, after, countsWithin, groupsReached, valuesCounted, levelsCounted, fits}
 use Rattle.judging.proofs.LimitLaws.{size-limit}
-use Rattle.judging.specs.Judging.{atomBound, numbersWithin, withinLimits, inOrder, on, stop, judgeForm}
+use Rattle.judging.specs.Judging.{atomBound, numbersWithin, withinLimits, inOrder, on, stop, judgeForm, maxBytes}
 
 -- Before the first line all counts are within the limits.
 pub start-limits : countsWithin start ≡ true
@@ -46,7 +47,7 @@ bound-most s l = step (eqb (s .phase) nothingYet)
     step true = omega arith
     step false = l
 
--- Values are counted from a state form on, levels from a claim on, and never more than the atoms.
+-- Values are counted from a state form on, levels from a claim on, and never more than one for each atom, in each group.
 module _ (s : Reached) where
   pub values-early : s .phase < openStood → valuesCounted s ≡ 0
   unfolding valuesCounted
@@ -60,45 +61,59 @@ module _ (s : Reached) where
   unfolding valuesCounted
   values-told l = rw (le-leb openStood (s .phase) l)
 
-  pub levels-told : claimStood ≤ s .phase → levelsCounted s ≡ s .size
+  pub levels-told : claimStood ≤ s .phase → levelsCounted s ≡ s .size * groupsReached s
   unfolding levelsCounted
   levels-told l = rw (le-leb claimStood (s .phase) l)
 
-  one-or-none : (t : Bool) → cond t (s .size) 0 ≤ s .size
-  one-or-none true = omega arith
-  one-or-none false = omega arith
+  all-or-none : (t : Bool) (n : ℕ) → cond t n 0 ≤ n
+  all-or-none true n = omega arith
+  all-or-none false n = omega arith
 
   pub values-few : valuesCounted s ≤ s .size
   unfolding valuesCounted
-  values-few = one-or-none (leb openStood (s .phase))
+  values-few = all-or-none (leb openStood (s .phase)) (s .size)
 
-  pub levels-few : levelsCounted s ≤ s .size
+  pub levels-few : levelsCounted s ≤ s .size * groupsReached s
   unfolding levelsCounted
-  levels-few = one-or-none (leb claimStood (s .phase))
+  levels-few = all-or-none (leb claimStood (s .phase)) (s .size * groupsReached s)
 
--- A form that tells a state counts a value for each atom, and a claim a level too; after other forms there are none.
+-- There is a group at least, and there are no more than a text has bytes.
+pub groups-some : (s : Reached) → (1 ≤ groupsReached s) × (groupsReached s ≤ maxBytes)
+unfolding groupsReached
+groups-some s = (omega arith, omega arith)
+
+-- A claim leaves the groups as they are.
+pub groups-claim : (s : Reached) (n literals terms : ℕ) → groupsReached (advanced s Claim n literals terms) ≡ groupsReached s
+unfolding groupsReached
+groups-claim s n literals terms = refl
+
+pub groups-after : (s : Reached) (f : Form) → sameKind (kindIn f) Claim ≡ true → groupsReached (after s f) ≡ groupsReached s
+unfolding after
+groups-after s f e = rw (same-kind (kindIn f) Claim e) (groups-claim s _ _ _)
+
+-- A form that tells a state counts a value for each atom, and a claim a level for each atom in each group; after other forms there are none.
 kind-counts :
-    (k : Kind) (n size : ℕ) →
+    (k : Kind) (n size before after : ℕ) → (sameKind k Claim ≡ true → after ≡ before) →
     (cond (leb openStood (phaseAfter k)) (cond (sameKind k Atoms) n size) 0 ≡ cond (sameKind k Open || sameKind k Claim) size 0)
-    × (cond (leb claimStood (phaseAfter k)) (cond (sameKind k Atoms) n size) 0 ≡ cond (sameKind k Claim) size 0)
+    × (cond (leb claimStood (phaseAfter k)) (cond (sameKind k Atoms) n size * after) 0 ≡ cond (sameKind k Claim) (size * before) 0)
 unfolding phaseAfter sameKind kindNumber
-kind-counts Atoms n size = (refl, refl)
-kind-counts Rule n size = (refl, refl)
-kind-counts Clause n size = (refl, refl)
-kind-counts Load n size = (refl, refl)
-kind-counts Open n size = (refl, refl)
-kind-counts Claim n size = (refl, refl)
-kind-counts Defined n size = (refl, refl)
-kind-counts Unknown n size = (refl, refl)
+kind-counts Atoms n size before after same = (refl, refl)
+kind-counts Rule n size before after same = (refl, refl)
+kind-counts Clause n size before after same = (refl, refl)
+kind-counts Load n size before after same = (refl, refl)
+kind-counts Open n size before after same = (refl, refl)
+kind-counts Claim n size before after same = (refl, rw (same refl))
+kind-counts Defined n size before after same = (refl, refl)
+kind-counts Unknown n size before after same = (refl, refl)
 
 module _ (s : Reached) (f : Form) where
   pub values-after : valuesCounted (after s f) ≡ cond (sameKind (kindIn f) Open || sameKind (kindIn f) Claim) (s .size) 0
   unfolding valuesCounted after advanced
-  values-after = kind-counts (kindIn f) (viewOf f .size) (s .size) .0
+  values-after = kind-counts (kindIn f) (viewOf f .size) (s .size) _ _ (groups-after s f) .0
 
-  pub levels-after : levelsCounted (after s f) ≡ cond (sameKind (kindIn f) Claim) (s .size) 0
+  pub levels-after : levelsCounted (after s f) ≡ cond (sameKind (kindIn f) Claim) (s .size * groupsReached s) 0
   unfolding levelsCounted after advanced
-  levels-after = kind-counts (kindIn f) (viewOf f .size) (s .size) .1
+  levels-after = kind-counts (kindIn f) (viewOf f .size) (s .size) _ _ (groups-after s f) .1
 
 -- A form judged well is within its limits, in order, and has space.
 judged-on :

@@ -19,21 +19,26 @@ use Rattle.judging.specs.declared.reached.Space.{Space}
 use Rattle.judging.specs.declared.reached.Judged.{Judged}
 use Rattle.judging.specs.declared.reached.Judged.the-variants.{Passed, Failed}
 use Rattle.judging.specs.States.{openStood, start, after, fits}
-use Rattle.judging.specs.Judging.{withinLimits, inOrder, Step, on, stop, judgeForm, lines, continued, judgeLines, maxBytes, formsFrom}
+use Rattle.judging.specs.Judging.{withinLimits, inOrder, Step, on, stop, judgeForm, levelled, ifLevelled, lines, continued, judgeLines, maxBytes, formsFrom}
 use Rattle.judging.specs.Books.{afterAll, passes, allPass, PassesUpTo, FirstRefused, noForm, notPassing, noState}
-use Rattle.judging.proofs.LineLaws.{line-formed, judge-line, judge-refused, forms-line}
+use Rattle.judging.proofs.LineLaws.{levelled-stays, levelled-got, line-formed, judge-line, judge-refused, forms-line}
 
--- A form passes exactly if the walk goes on after it.
+-- A form that is levelled passes exactly if the walk goes on after it.
 module _ (space : Space) (s : Reached) (f : Form) where
+  pub passes-levelled : passes space s f ≡ true → levelled s f ≡ true
+  unfolding passes
+  passes-levelled h = first (levelled s f) _ h
+
   pub passes-on : passes space s f ≡ true → judgeForm space s f ≡ on (after s f)
   unfolding passes judgeForm
   passes-on h =
-      let later = second (withinLimits s f) _ h in
-      rw (first (withinLimits s f) _ h, first (inOrder s f) _ later, second (inOrder s f) _ later)
+      let judged = second (levelled s f) _ h in
+      let later = second (withinLimits s f) _ judged in
+      rw (first (withinLimits s f) _ judged, first (inOrder s f) _ later, second (inOrder s f) _ later)
 
-  pub on-passes : (t : Reached) → judgeForm space s f ≡ on t → passes space s f ≡ true
+  pub on-passes : (t : Reached) → levelled s f ≡ true → judgeForm space s f ≡ on t → passes space s f ≡ true
   unfolding passes judgeForm
-  on-passes t h = step (withinLimits s f) (inOrder s f) (fits space (after s f)) h
+  on-passes t l h = both (levelled s f) _ l (step (withinLimits s f) (inOrder s f) (fits space (after s f)) h)
     where
       step :
           (a b c : Bool) → cond a (cond b (cond c (on (after s f)) (stop NoSpace)) (stop OutOfOrder)) (stop OutsideLimits) ≡ on t →
@@ -74,15 +79,18 @@ unfolding allPass afterAll renderAll continued
 judge-passed space s at [] rest h = let e : at + 0 ≡ at = omega arith in rw e
 judge-passed space s at (f ∷ fs) rest h =
     let next : (at + suc (length (render f))) + length (renderAll fs) ≡ at + length (render f ++ (lineEnd ∷ renderAll fs)) = simp length-append (omega arith) in
-    rw (append-assoc, judge-line space s at f (renderAll fs ++ rest), passes-on space s f (first (passes space s f) _ h))
+    let here = first (passes space s f) _ h in
+    rw (append-assoc, judge-line space s at f (renderAll fs ++ rest) (passes-levelled space s f here), passes-on space s f here)
     (judge-passed space (after s f) (at + suc (length (render f))) fs rest (second (passes space s f) _ h)
     ∙ ap (λ (n : ℕ). judgeLines space (afterAll (after s f) fs) n (lines rest)) next)
 
--- The forms of a rendering are those that it renders.
-pub forms-all : (s : Reached) (fs : List Form) → formsFrom s (lines (renderAll fs)) ≡ fs
-unfolding renderAll formsFrom lines
-forms-all s [] = refl
-forms-all s (f ∷ fs) = forms-line s f (renderAll fs) ∙ ap (λ (gs : List Form). f ∷ gs) (forms-all (after s f) fs)
+-- The forms of a rendering are those that it renders, if they pass.
+pub forms-all : (space : Space) (s : Reached) (fs : List Form) → allPass space s fs ≡ true → formsFrom s (lines (renderAll fs)) ≡ fs
+unfolding renderAll formsFrom lines allPass
+forms-all space s [] h = refl
+forms-all space s (f ∷ fs) h =
+    forms-line s f (renderAll fs) (passes-levelled space s f (first (passes space s f) _ h))
+    ∙ ap (λ (gs : List Form). f ∷ gs) (forms-all space (after s f) fs (second (passes space s f) _ h))
 
 -- What the walk over a text comes to: all its forms pass and the last tells the state, or the text is refused.
 pub data WalkEnd (space : Space) (text : List ℕ) (j : Judged) : Type 0 where
@@ -125,7 +133,7 @@ module _ (space : Space) (text : List ℕ) (short : length text ≤ maxBytes) wh
           refl
 
   unread :
-      (before : List Form) (b : ℕ) (bs : List ℕ) → Rest before (b ∷ bs) → readLine (b ∷ bs) ≡ refused →
+      (before : List Form) (b : ℕ) (bs : List ℕ) → Rest before (b ∷ bs) → ifLevelled (afterAll start before) (readLine (b ∷ bs)) ≡ refused →
       WalkEnd space text (judged before (b ∷ bs))
   unread before b bs r none =
       refusedAt Malformed (length (renderAll before))
@@ -136,22 +144,28 @@ module _ (space : Space) (text : List ℕ) (short : length text ≤ maxBytes) wh
         passing = r .passing;
         whole = r .whole;
         some = omega arith;
-        unread = (λ f later e. let z : _≡_ {A = ℕ} 0 1 = cc (line-reads f later) in omega arith);
+        unread =
+            (λ f later h e.
+            let none : ifLevelled (afterAll start before) (got f later) ≡ refused = rw (e, line-reads f later) at none in
+            let z : _≡_ {A = ℕ} 0 1 = cc (levelled-stays (afterAll start before) f later h) in
+            omega arith);
         faultIs = refl;
         position = refl;
       }))
       (judge-refused space _ _ b bs none)
 
-  -- A form at the front passes, and the walk goes on; or it is refused.
-  module _ (before : List Form) (f : Form) (rest : List ℕ) (r : Rest before (render f ++ (lineEnd ∷ rest))) where
+  -- A levelled form at the front passes, and the walk goes on; or it is refused.
+  module _
+      (before : List Form) (f : Form) (rest : List ℕ) (r : Rest before (render f ++ (lineEnd ∷ rest)))
+      (levels : levelled (afterAll start before) f ≡ true) where
     stopped :
         (fault : Fault) → judgeForm space (afterAll start before) f ≡ stop fault →
         WalkEnd space text (judged before (render f ++ (lineEnd ∷ rest)))
     unfolding continued
     stopped fault e =
         refusedAt fault (length (renderAll before))
-        (notPassing (record { short = short; before = before; form = f; rest = rest; passing = r .passing; whole = r .whole; stopped = e; position = refl }))
-        (rw (judge-line space (afterAll start before) (length (renderAll before)) f rest, e))
+        (notPassing (record { short = short; before = before; form = f; rest = rest; passing = r .passing; whole = r .whole; levels = levels; stopped = e; position = refl }))
+        (rw (judge-line space (afterAll start before) (length (renderAll before)) f rest levels, e))
 
     rest-more : passes space (afterAll start before) f ≡ true → Rest (before ++ (f ∷ [])) rest
     rest-more h =
@@ -164,7 +178,7 @@ module _ (space : Space) (text : List ℕ) (short : length text ≤ maxBytes) wh
         passes space (afterAll start before) f ≡ true → judged before (render f ++ (lineEnd ∷ rest)) ≡ judged (before ++ (f ∷ [])) rest
     unfolding continued
     judged-more h =
-        rw (judge-line space (afterAll start before) (length (renderAll before)) f rest, passes-on space (afterAll start before) f h, after-more, length-more)
+        rw (judge-line space (afterAll start before) (length (renderAll before)) f rest levels, passes-on space (afterAll start before) f h, after-more, length-more)
 
     went :
         (Rest (before ++ (f ∷ [])) rest → WalkEnd space text (judged (before ++ (f ∷ [])) rest)) →
@@ -174,7 +188,7 @@ module _ (space : Space) (text : List ℕ) (short : length text ≤ maxBytes) wh
         step :
             (m : Step) → judgeForm space (afterAll start before) f ≡ m → WalkEnd space text (judged before (render f ++ (lineEnd ∷ rest)))
         step (on t) e =
-            let h = on-passes space (afterAll start before) f t e in
+            let h = on-passes space (afterAll start before) f t levels e in
             subst (λ (j : Judged). WalkEnd space text j) (sym (judged-more h)) (later (rest-more h))
         step (stop fault) e = stopped fault e
 
@@ -182,16 +196,17 @@ module _ (space : Space) (text : List ℕ) (short : length text ≤ maxBytes) wh
   walk zero before [] l r = ended before r
   walk zero before (b ∷ bs) l r = absurd (omega arith)
   walk (suc fuel) before [] l r = ended before r
-  walk (suc fuel) before (b ∷ bs) l r = step (readLine (b ∷ bs)) refl (λ next rest m s. walk fuel next rest m s)
+  walk (suc fuel) before (b ∷ bs) l r = step (ifLevelled (afterAll start before) (readLine (b ∷ bs))) refl (λ next rest m s. walk fuel next rest m s)
     where
       step :
-          (line : Reading Form) → readLine (b ∷ bs) ≡ line →
+          (line : Reading Form) → ifLevelled (afterAll start before) (readLine (b ∷ bs)) ≡ line →
           ((next : List Form) (rest : List ℕ) → length rest ≤ fuel → Rest next rest → WalkEnd space text (judged next rest)) →
           WalkEnd space text (judged before (b ∷ bs))
       step (got f rest) e again =
-          let here : b ∷ bs ≡ render f ++ (lineEnd ∷ rest) = line-formed (b ∷ bs) f rest e in
+          let read = levelled-got (afterAll start before) (readLine (b ∷ bs)) f rest e in
+          let here : b ∷ bs ≡ render f ++ (lineEnd ∷ rest) = line-formed (b ∷ bs) f rest (read .0) in
           subst (λ (bytes : List ℕ). WalkEnd space text (judged before bytes)) (sym here)
-          (went before f rest (subst (λ (bytes : List ℕ). Rest before bytes) here r)
+          (went before f rest (subst (λ (bytes : List ℕ). Rest before bytes) here r) (read .1)
           (again (before ++ (f ∷ [])) rest (omega (arith, simp length-append at (ap length here)))))
       step refused e again = unread before b bs r e
 

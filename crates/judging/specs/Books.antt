@@ -14,7 +14,7 @@ use Rattle.judging.specs.declared.reached.Reached.{Reached}
 use Rattle.judging.specs.declared.reached.Space.{Space}
 use Rattle.judging.specs.LentTables.{Table, fullSize, roomIn}
 use Rattle.judging.specs.States.{openStood, start, after, countsWithin, fits}
-use Rattle.judging.specs.Judging.{numbersWithin, withinLimits, partsInOrder, inOrder, stop, judgeForm, maxBytes}
+use Rattle.judging.specs.Judging.{numbersWithin, withinLimits, partsInOrder, inOrder, stop, judgeForm, levelled, maxBytes}
 
 -- The state after some forms in turn.
 unfoldable pub afterAll : Reached → List Form → Reached
@@ -43,10 +43,12 @@ pub record InSequence (fs : List Form) : Type 0 where
   pub tellsState : isState state ≡ true
   pub whole : fs ≡ atoms ∷ (defined ++ (rules ++ (clauses ++ (loads ++ (state ∷ [])))))
 
--- Forms that are a book which the lent tables hold. Numbers and parts are tested in the state that is reached at the end; of it these
--- tests look only at N and at whether an atoms line stood.
+-- Forms that are a book which the lent tables hold. Levels, numbers and parts are tested in the state that is reached at the end; of it these
+-- tests look only at the number of groups, at N and at whether an atoms line stood.
 pub record IsBook (space : Space) (fs : List Form) : Type 0 where
   pub sequence : InSequence fs
+  -- Every claim pair has a level for each group.
+  pub levels : all (levelled (afterAll start fs)) fs ≡ true
   -- Every number is within its limit, and named atoms lie below N.
   pub numbers : all (numbersWithin (afterAll start fs)) fs ≡ true
   -- Rows, literals and terms are within the limits of a book.
@@ -62,9 +64,9 @@ pub record BookText (space : Space) (text : List ℕ) (fs : List Form) : Type 0 
   pub short : length text ≤ maxBytes
   pub book : IsBook space fs
 
--- A form passes in a state if it is within its limits, in order and held; and forms pass in turn.
+-- A form passes in a state if it is levelled, within its limits, in order and held; and forms pass in turn.
 unfoldable pub passes : Space → Reached → Form → Bool
-passes space s f = withinLimits s f && (inOrder s f && fits space (after s f))
+passes space s f = levelled s f && (withinLimits s f && (inOrder s f && fits space (after s f)))
 
 unfoldable pub allPass : Space → Reached → List Form → Bool
 allPass space s [] = true
@@ -80,7 +82,7 @@ pub record TooLong (text : List ℕ) (fault : Fault) (at : ℕ) : Type 0 where
   pub faultIs : fault ≡ OutsideLimits
   pub position : at ≡ 0
 
--- After forms that pass there may be bytes that begin with no form's line.
+-- After forms that pass there may be bytes that begin with no line of a form that is levelled there.
 pub record NoForm (space : Space) (text : List ℕ) (fault : Fault) (at : ℕ) : Type 0 where
   pub short : length text ≤ maxBytes
   pub before : List Form
@@ -88,11 +90,11 @@ pub record NoForm (space : Space) (text : List ℕ) (fault : Fault) (at : ℕ) :
   pub passing : PassesUpTo space before
   pub whole : text ≡ renderAll before ++ rest
   pub some : 0 < length rest
-  pub unread : (f : Form) (later : List ℕ) → rest ≡ render f ++ (lineEnd ∷ later) → ⊥
+  pub unread : (f : Form) (later : List ℕ) → levelled (afterAll start before) f ≡ true → rest ≡ render f ++ (lineEnd ∷ later) → ⊥
   pub faultIs : fault ≡ Malformed
   pub position : at ≡ length (renderAll before)
 
--- After forms that pass there may be one that does not.
+-- After forms that pass there may be one that is levelled and does not pass.
 pub record NotPassing (space : Space) (text : List ℕ) (fault : Fault) (at : ℕ) : Type 0 where
   pub short : length text ≤ maxBytes
   pub before : List Form
@@ -100,6 +102,7 @@ pub record NotPassing (space : Space) (text : List ℕ) (fault : Fault) (at : �
   pub rest : List ℕ
   pub passing : PassesUpTo space before
   pub whole : text ≡ renderAll before ++ (render form ++ (lineEnd ∷ rest))
+  pub levels : levelled (afterAll start before) form ≡ true
   pub stopped : judgeForm space (afterAll start before) form ≡ stop fault
   pub position : at ≡ length (renderAll before)
 
@@ -120,7 +123,7 @@ pub data FirstRefused (space : Space) (text : List ℕ) (fault : Fault) (at : �
   notPassing : NotPassing space text fault at → FirstRefused space text fault at
   noState : NoStateForm space text fault at → FirstRefused space text fault at
 
--- A lent table has no room for the first form that does not pass, though that form is within its limits and in order.
+-- A lent table has no room for the first form that does not pass, though that form is levelled, within its limits and in order.
 pub record NoRoom (space : Space) (text : List ℕ) (at : ℕ) : Type 0 where
   pub short : length text ≤ maxBytes
   pub before : List Form
@@ -129,6 +132,7 @@ pub record NoRoom (space : Space) (text : List ℕ) (at : ℕ) : Type 0 where
   pub passing : PassesUpTo space before
   pub whole : text ≡ renderAll before ++ (render form ++ (lineEnd ∷ rest))
   pub position : at ≡ length (renderAll before)
+  pub levels : levelled (afterAll start before) form ≡ true
   pub within : withinLimits (afterAll start before) form ≡ true
   pub ordered : inOrder (afterAll start before) form ≡ true
   pub full : fits space (afterAll start (before ++ (form ∷ []))) ≡ false

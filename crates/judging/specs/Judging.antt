@@ -18,7 +18,7 @@ use Rattle.judging.specs.declared.reached.Reached.{Reached}
 use Rattle.judging.specs.declared.reached.Space.{Space}
 use Rattle.judging.specs.declared.reached.Judged.{Judged}
 use Rattle.judging.specs.declared.reached.Judged.the-variants.{Passed, Failed}
-use Rattle.judging.specs.States.{nothingYet, atomsStood, inRules, inClauses, inLoads, openStood, start, after, countsWithin, fits}
+use Rattle.judging.specs.States.{nothingYet, atomsStood, inRules, inClauses, inLoads, openStood, start, after, countsWithin, groupsReached, fits}
 
 -- 2: numbers and counts within their limits. Atoms of heads and literals are judged against the largest book, not against N.
 unfoldable pub literalWithin : LiteralText → Bool
@@ -28,7 +28,7 @@ unfoldable pub termWithin : TermText → Bool
 termWithin t = leb (natAbs (t .minutes)) maxMinutes && literalWithin (t .literal)
 
 unfoldable pub pairWithin : PairText → Bool
-pairWithin p = leb (p .value) maxValue && leb (p .level) maxLevel
+pairWithin p = leb (p .value) maxValue && all (λ level. leb level maxLevel) (p .levels)
 
 unfoldable pub boundWithin : ℤ → Bool
 boundWithin bound = leb (natAbs bound) maxBound
@@ -96,9 +96,19 @@ unfoldable pub lines : List ℕ → List LineText
 lines [] = []
 lines (byte ∷ bytes) = let more = lines bytes in cond (eqb byte lineEnd) (record { bytes = []; ended = true } ∷ more) (prepend byte more)
 
--- 1: a line is a form if it is ended and its bytes parse. This test too is made in the state reached so far.
+-- 1: a line is a form if it is ended, its bytes parse, and each claim pair has a level for each group that the state reached so far has.
+unfoldable pub levelsFor : ℕ → PairText → Bool
+levelsFor groups p = eqb (length (p .levels)) groups
+
+unfoldable pub levelled : Reached → Form → Bool
+levelled s f = all (levelsFor (groupsReached s)) (viewOf f .pairs)
+
+unfoldable pub ifLevelled : Reached → Reading Form → Reading Form
+ifLevelled s (got f rest) = cond (levelled s f) (got f rest) refused
+ifLevelled s refused = refused
+
 unfoldable pub formIn : Reached → LineText → Reading Form
-formIn s line = cond (line .ended) (parse (line .bytes)) refused
+formIn s line = cond (line .ended) (ifLevelled s (parse (line .bytes))) refused
 
 unfoldable pub judgeReading : Space → Reached → Reading Form → Step
 judgeReading space s (got f rest) = judgeForm space s f

@@ -75,12 +75,16 @@ countsWithin s =
     leb (s .rules) (maxRuleRows * ruleWidth) && leb (s .literals) maxLiterals && leb (s .clauses) (maxClauseRows * clauseWidth)
     && leb (s .loads) (maxLoadRows * loadWidth) && leb (s .terms) maxTerms
 
--- Marks and values are counted once a state form stood, levels once a claim did: one for each atom.
+-- How many groups of rules there are, each with a level of its own for every atom: a book has one definition so far.
+unfoldable pub groupsReached : Reached → ℕ
+groupsReached s = 1
+
+-- Marks and values are counted once a state form stood, one for each atom; levels once a claim did, one for each atom in each group.
 unfoldable pub valuesCounted : Reached → ℕ
 valuesCounted s = cond (leb openStood (s .phase)) (s .size) 0
 
 unfoldable pub levelsCounted : Reached → ℕ
-levelsCounted s = cond (leb claimStood (s .phase)) (s .size) 0
+levelsCounted s = cond (leb claimStood (s .phase)) (s .size * groupsReached s) 0
 
 -- The entries counted for each table; load literals and minutes both hold the terms.
 unfoldable pub countIn : Reached → Table → ℕ

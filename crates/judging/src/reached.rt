@@ -1,8 +1,8 @@
 // The state that the lines read so far have reached, and how a line is judged in it.
 ghost use mathlib.Core.Path.{_≡_};
-ghost use Prim.Native.Nat.{_≤_};
+ghost use Prim.Native.Nat.{_*_, _≤_};
 ghost use Rattle.format.specs.declared.kinds.Kind.the-variants.{Rule, Clause, Load};
-ghost use Rattle.judging.specs.States.{start};
+ghost use Rattle.judging.specs.States.{start, groupsReached};
 ghost use Rattle.judging.specs.Judging.{between, mayFollow, maxBytes};
 ghost use Rattle.judging.specs.internal.Shapes.{added, orderOf, judgeShape, asMove, CountsFit, CountedAs};
 use format::kinds::Kind;
@@ -93,6 +93,20 @@ pub fn start() -> Reached
     }
 }
 
+// How many groups of rules there are.
+pub fn groups_reached(reached: Reached) -> usize
+    ensures { λ r. ⌜ r ≡ groupsReached reached ⌝ }
+{
+    1
+}
+
+// How many levels a claim tells: one for each atom in each group.
+fn levels_told(reached: Reached) -> usize
+    ensures { λ r. ⌜ r ≡ reached .size * groupsReached reached ⌝ }
+{
+    reached.size * groups_reached(reached)
+}
+
 // The state after a form, and whether all that is counted then is within the limits of a book and has space in the lent tables.
 struct Counted {
     then: Reached,
@@ -179,7 +193,7 @@ fn count(space: Space, reached: Reached, kind: Kind, size: usize, parts: usize) 
             then.phase = CLAIM_STOOD;
             fits = (reached.size <= space.marks)
                 & (reached.size <= space.values)
-                & (reached.size <= space.levels);
+                & (levels_told(reached) <= space.levels);
         }
         Kind::Defined => {
             then.phase = IN_RULES;

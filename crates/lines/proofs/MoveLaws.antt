@@ -10,7 +10,7 @@ use lib.Seq.{drop-drop, drop-append-seam}
 use Rattle.wellfounded.proofs.Tests.{first}
 use Rattle.tables.specs.declared.Fault.the-variants.{Malformed}
 use Rattle.format.specs.Forms.{Form, lineEnd, render}
-use Rattle.format.specs.Parse.{Reading, got, refused, andThen, readForm, readLine}
+use Rattle.format.specs.Parse.{Reading, got, refused, andThen, skip, readForm, readLine}
 use Rattle.format.specs.Words.{wordAt}
 use Rattle.format.proofs.Readings.{holds-use}
 use Rattle.format.proofs.Lines.{form-written}
@@ -21,10 +21,11 @@ use Rattle.judging.specs.declared.reached.Shape.{Shape}
 use Rattle.judging.specs.declared.reached.Move.{Move}
 use Rattle.judging.specs.declared.reached.Move.the-variants.{Stop}
 use Rattle.judging.specs.States.{fits}
-use Rattle.judging.specs.Judging.{maxBytes, numbersWithin, withinLimits, Step, on, stop, judgeForm}
+use Rattle.judging.specs.Judging.{maxBytes, numbersWithin, withinLimits, Step, on, stop, judgeForm, levelled, ifLevelled}
 use Rattle.judging.specs.internal.Shapes.{shapeOf, judgeShape, asMove}
 use Rattle.judging.proofs.ShapeLaws.{shape-judged, parts-few}
 use Rattle.judging.proofs.StateLaws.{judge-on}
+use Rattle.judging.proofs.LineLaws.{levelled-got}
 use Rattle.forms.specs.declared.Line.{Line}
 use Rattle.forms.specs.declared.Line.the-variants.{Formed}
 use Rattle.forms.specs.Contents.{Contents}
@@ -54,11 +55,41 @@ judged-fine space s f n g =
     let k = judge-on space s f (t .0) (t .1) in
     record { within = first (numbersWithin s f) _ (k .0); ordered = k .1 }
 
+-- A line's form is levelled exactly if the form at the front is.
+end-levelled :
+    {A : Type 0} (s : Reached) (f : Form) (r : Reading A) →
+    ifLevelled s (andThen r (λ e after. got f after)) ≡ cond (levelled s f) (andThen r (λ e after. got f after)) refused
+unfolding ifLevelled andThen
+end-levelled s f (got e after) = refl
+end-levelled s f refused = step (levelled s f)
+  where
+    step : (b : Bool) → _≡_ {A = Reading Form} refused (cond b refused refused)
+    step true = refl
+    step false = refl
+
+line-levelled :
+    (s : Reached) (bytes : List ℕ) →
+    ifLevelled s (readLine bytes) ≡ andThen (ifLevelled s (readForm bytes)) (λ f rest. andThen (skip (lineEnd ∷ []) rest) (λ e after. got f after))
+unfolding readLine andThen ifLevelled
+line-levelled s bytes = step (readForm bytes)
+  where
+    ended : Form → List ℕ → Reading Form
+    ended f rest = andThen (skip (lineEnd ∷ []) rest) (λ e after. got f after)
+
+    choose : (b : Bool) (f : Form) (rest : List ℕ) → cond b (ended f rest) refused ≡ andThen (cond b (got f rest) refused) ended
+    choose true f rest = refl
+    choose false f rest = refl
+
+    step : (r : Reading Form) → ifLevelled s (andThen r ended) ≡ andThen (ifLevelled s r) ended
+    step (got f rest) = end-levelled s f (skip (lineEnd ∷ []) rest) ∙ choose (levelled s f) f rest
+    step refused = refl
+
 -- A form was read at an offset.
 module _ {s : Reached} {text : List ℕ} {at : ℕ} {line : Line} {written : Form → Type 0} (ready : Ready text at s)
-    (read : Forms s text (readForm (drop at text)) line written) where
-  written-there : {f : Form} {rest : List ℕ} → readForm (drop at text) ≡ got f rest → drop at text ≡ render f ++ rest
-  written-there e = holds-use (λ g end. drop at text ≡ render g ++ end) (form-written (drop at text)) e
+    (read : Forms s text (ifLevelled s (readForm (drop at text))) line written) where
+  written-there : {f : Form} {rest : List ℕ} → ifLevelled s (readForm (drop at text)) ≡ got f rest → drop at text ≡ render f ++ rest
+  written-there {f} {rest} e =
+      holds-use (λ g end. drop at text ≡ render g ++ end) (form-written (drop at text)) (levelled-got s (readForm (drop at text)) f rest e .0)
 
   -- So that it may be judged.
   pub judgeable : {space : Space} → fits space s ≡ true → Judgeable space s line
@@ -66,11 +97,11 @@ module _ {s : Reached} {text : List ℕ} {at : ℕ} {line : Line} {written : For
   judgeable fitting =
       record {
         fitted = record { limits = ready .counts; fitting = fitting };
-        few = λ shape next e. step shape next (readForm (drop at text)) refl (sym (read .answered) ∙ e);
+        few = λ shape next e. step shape next (ifLevelled s (readForm (drop at text))) refl (sym (read .answered) ∙ e);
       }
     where
       step :
-          (shape : Shape) (next : ℕ) (r : Reading Form) → readForm (drop at text) ≡ r → formed s text r ≡ Formed shape next →
+          (shape : Shape) (next : ℕ) (r : Reading Form) → ifLevelled s (readForm (drop at text)) ≡ r → formed s text r ≡ Formed shape next →
           shape .parts ≤ maxBytes
       step shape next (got f rest) d t =
           let same : shape ≡ shapeOf s f = cc in
@@ -82,30 +113,31 @@ module _ {s : Reached} {text : List ℕ} {at : ℕ} {line : Line} {written : For
 -- The line that was read comes to what its form comes to.
 module _ (space : Space) {s : Reached} {text : List ℕ} {at : ℕ} (ready : Ready text at s) {before afterwards : Contents} where
   ended :
-      (f : Form) (next : ℕ) (b : Bool) → readForm (drop at text) ≡ got f (drop next text) → wordAt text next (lineEnd ∷ []) ≡ b →
+      (f : Form) (next : ℕ) (b : Bool) → ifLevelled s (readForm (drop at text)) ≡ got f (drop next text) → wordAt text next (lineEnd ∷ []) ≡ b →
       (WellPlaced s f → Stored s before afterwards f) →
-      Moves space s text (readLine (drop at text)) (cond b (asMove (next + 1) (judgeShape space s (shapeOf s f))) (Stop Malformed)) before afterwards
-  unfolding readLine andThen moveOf
+      Moves space s text (ifLevelled s (readLine (drop at text))) (cond b (asMove (next + 1) (judgeShape space s (shapeOf s f))) (Stop Malformed)) before
+      afterwards
+  unfolding andThen moveOf
   ended f next true d w laid =
       let g = byte-got text next lineEnd w in
       let end : length text - length (drop (next + 1) text) ≡ next + 1 = rw length-drop (omega (arith, g .1)) in
-      rw (d, g .0, shape-judged space s f (ready .atoms)) record { answered = rw end; laid = λ on. laid (judged-fine space s f (next + 1) on) }
-  ended f next false d w laid = rw (d, byte-none text next lineEnd w) record { answered = refl; laid = tt }
+      rw (line-levelled s (drop at text), d, g .0, shape-judged space s f (ready .atoms)) record { answered = rw end; laid = λ on. laid (judged-fine space s f (next + 1) on) }
+  ended f next false d w laid = rw (line-levelled s (drop at text), d, byte-none text next lineEnd w) record { answered = refl; laid = tt }
 
-  unread : readForm (drop at text) ≡ refused → Moves space s text (readLine (drop at text)) (Stop Malformed) before afterwards
-  unfolding readLine andThen moveOf
-  unread d = rw d record { answered = refl; laid = tt }
+  unread : ifLevelled s (readForm (drop at text)) ≡ refused → Moves space s text (ifLevelled s (readLine (drop at text))) (Stop Malformed) before afterwards
+  unfolding andThen moveOf
+  unread d = rw (line-levelled s (drop at text), d) record { answered = refl; laid = tt }
 
   pub line-moves :
-      {line : Line} {answer : Move} → Forms s text (readForm (drop at text)) line (Stored s before afterwards) →
+      {line : Line} {answer : Move} → Forms s text (ifLevelled s (readForm (drop at text))) line (Stored s before afterwards) →
       answer ≡ lineMove space s text line →
-      Moves space s text (readLine (drop at text)) answer before afterwards
+      Moves space s text (ifLevelled s (readLine (drop at text))) answer before afterwards
   unfolding formed lineMove
-  line-moves {line} {answer} read a = step (readForm (drop at text)) refl read
+  line-moves {line} {answer} read a = step (ifLevelled s (readForm (drop at text))) refl read
     where
       step :
-          (r : Reading Form) → readForm (drop at text) ≡ r → Forms s text r line (Stored s before afterwards) →
-          Moves space s text (readLine (drop at text)) answer before afterwards
+          (r : Reading Form) → ifLevelled s (readForm (drop at text)) ≡ r → Forms s text r line (Stored s before afterwards) →
+          Moves space s text (ifLevelled s (readLine (drop at text))) answer before afterwards
       step (got f rest) d k =
           let next = length text - length rest in
           let there = rest-at text (render f) rest (ready .inside .reached) (written-there ready read d) in

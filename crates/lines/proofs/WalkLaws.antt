@@ -20,9 +20,9 @@ use Rattle.judging.specs.declared.reached.Judged.{Judged}
 use Rattle.judging.specs.declared.reached.Judged.the-variants.{Failed}
 use Rattle.judging.specs.LentTables.{Table}
 use Rattle.judging.specs.States.{start, after, fits}
-use Rattle.judging.specs.Judging.{lines, Step, on, stop, judgeForm, continued, judgeLines, judgeText, maxBytes, formsFrom, formsOf}
+use Rattle.judging.specs.Judging.{lines, Step, on, stop, judgeForm, levelled, ifLevelled, continued, judgeLines, judgeText, maxBytes, formsFrom, formsOf}
 use Rattle.judging.specs.internal.Shapes.{asMove}
-use Rattle.judging.proofs.LineLaws.{line-formed, judge-line, judge-refused, forms-line}
+use Rattle.judging.proofs.LineLaws.{levelled-got, line-formed, judge-line, judge-refused, forms-line}
 use Rattle.judging.proofs.Counts.{start-fits}
 use Rattle.judging.proofs.StateLaws.{start-limits, after-counts, after-size, judge-on}
 use Rattle.forms.specs.Contents.{Contents}
@@ -73,8 +73,8 @@ as-move-stop n (on s) e = let z : _≡_ {A = ℕ} 0 1 = cc in absurd (omega arit
 as-move-stop n (stop fault) e = cc
 
 module _ {text : List ℕ} {space : Space} {before : Contents} {s : Reached} {at : ℕ} {now : Contents} (w : Underway text space before s at now) where
-  -- A form's line stands at the offset, and its form passes.
-  module _ (f : Form) (rest : List ℕ) (here : drop at text ≡ render f ++ (lineEnd ∷ rest)) where
+  -- The line of a levelled form stands at the offset, and the form passes.
+  module _ (f : Form) (rest : List ℕ) (levels : levelled s f ≡ true) (here : drop at text ≡ render f ++ (lineEnd ∷ rest)) where
     after-line : (length text - length rest ≡ at + suc (length (render f))) × (drop (length text - length rest) text ≡ rest)
     after-line =
         let k = rest-at text (render f ++ (lineEnd ∷ [])) rest (w .ready .inside .reached) (here ∙ sym (append-assoc (render f) (lineEnd ∷ []) rest)) in
@@ -85,13 +85,13 @@ module _ {text : List ℕ} {space : Space} {before : Contents} {s : Reached} {at
         {t : Reached} → judgeForm space s f ≡ on t →
         judgeLines space s at (lines (drop at text)) ≡ judgeLines space t (at + suc (length (render f))) (lines rest)
     unfolding continued
-    judged-on e = rw (here, judge-line space s at f rest, e)
+    judged-on e = rw (here, judge-line space s at f rest levels, e)
 
     stored-on :
         storeForms s (formsFrom s (lines (drop at text))) now
         ≡ storeForms (after s f) (formsFrom (after s f) (lines rest)) (store s (entriesOf s f) now)
     unfolding storeForms
-    stored-on = rw (here, forms-line s f rest)
+    stored-on = rw (here, forms-line s f rest levels)
 
     stored-lengths : (table : Table) → length (store s (entriesOf s f) now table) ≡ length (before table)
     unfolding store
@@ -120,33 +120,35 @@ module _ {text : List ℕ} {space : Space} {before : Contents} {s : Reached} {at
 
   -- A line that goes on.
   pub walk-on :
-      {answer : Move} {t : Reached} {next : ℕ} {later : Contents} → Moves space s text (readLine (drop at text)) answer now later →
+      {answer : Move} {t : Reached} {next : ℕ} {later : Contents} → Moves space s text (ifLevelled s (readLine (drop at text))) answer now later →
       answer ≡ On t next → Underway text space before t next later × (at < next)
   unfolding moveOf goesOn
-  walk-on {answer} {t} {next} {later} m e = step (readLine (drop at text)) refl m
+  walk-on {answer} {t} {next} {later} m e = step (ifLevelled s (readLine (drop at text))) refl m
     where
       step :
-          (r : Reading Form) → readLine (drop at text) ≡ r → Moves space s text r answer now later →
+          (r : Reading Form) → ifLevelled s (readLine (drop at text)) ≡ r → Moves space s text r answer now later →
           Underway text space before t next later × (at < next)
       step (got f rest) read m =
           let k = as-move-on _ (judgeForm space s f) (sym (m .answered) ∙ e) in
-          went f rest (line-formed (drop at text) f rest read) (k .0) (k .1) (m .laid (rw e))
+          let line = levelled-got s (readLine (drop at text)) f rest read in
+          went f rest (line .1) (line-formed (drop at text) f rest (line .0)) (k .0) (k .1) (m .laid (rw e))
       step refused read m = let z : _≡_ {A = ℕ} 0 1 = cc (m .answered) in absurd (omega arith)
 
   -- A line that is refused.
   pub walk-stop :
       {answer : Move} {fault : Fault} {later : Contents} → at < length text →
-      Moves space s text (readLine (drop at text)) answer now later →
+      Moves space s text (ifLevelled s (readLine (drop at text))) answer now later →
       answer ≡ Stop fault → Walked text space before (Failed fault at) later
   unfolding moveOf continued isPassed
   walk-stop {answer} {fault} {later} l m e =
-      record { answered = step (readLine (drop at text)) refl (sym (m .answered) ∙ e) ∙ w .judged; laid = λ p. absurd (false≢true p) }
+      record { answered = step (ifLevelled s (readLine (drop at text))) refl (sym (m .answered) ∙ e) ∙ w .judged; laid = λ p. absurd (false≢true p) }
     where
       step :
-          (r : Reading Form) → readLine (drop at text) ≡ r → moveOf space s text r ≡ Stop fault →
+          (r : Reading Form) → ifLevelled s (readLine (drop at text)) ≡ r → moveOf space s text r ≡ Stop fault →
           Failed fault at ≡ judgeLines space s at (lines (drop at text))
       step (got f rest) read a =
-          rw (line-formed (drop at text) f rest read, judge-line space s at f rest, as-move-stop _ (judgeForm space s f) a)
+          let line = levelled-got s (readLine (drop at text)) f rest read in
+          rw (line-formed (drop at text) f rest (line .0), judge-line space s at f rest (line .1), as-move-stop _ (judgeForm space s f) a)
       step refused read a =
           let some = drop-cons text at 0 l in
           let told : Failed fault at ≡ Failed Malformed at = cc in

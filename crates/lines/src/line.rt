@@ -18,6 +18,7 @@ use tables::Fault;
 ghost use mathlib.Core.Path.{_≡_};
 ghost use lib.ListN.{drop};
 ghost use Rattle.format.specs.Parse.{readForm};
+ghost use Rattle.judging.specs.Judging.{ifLevelled};
 ghost use Rattle.forms.specs.Contents.{lentTables};
 ghost use Rattle.forms.specs.Entries.{entriesOf};
 ghost use Rattle.forms.specs.internal.Stores.{store};
@@ -40,7 +41,7 @@ pub fn read_form(
     levels: &mut [u16],
 ) -> Line
     requires { ⌜ Ready (now text) at reached ⌝ }
-    ensures { λ r. ⌜ Forms reached (now (text .entry)) (readForm (drop at (now (text .entry)))) r
+    ensures { λ r. ⌜ Forms reached (now (text .entry)) (ifLevelled reached (readForm (drop at (now (text .entry))))) r
         (λ f. lentTables (now (rules .exit)) (now (literals .exit)) (now (clauses .exit)) (now (loads .exit)) (now («load_literals» .exit))
         (now (minutes .exit)) (now (marks .exit)) (now (values .exit)) (now (levels .exit))
         ≡ store reached (entriesOf reached f)

@@ -24,8 +24,8 @@ use Rattle.items.proofs.ItemLaws.{GotAt, number-got, byte-got}
 use Rattle.judging.specs.Judging.{risesFrom}
 use Rattle.judging.specs.internal.Shapes.{cappedRise}
 use Rattle.lists.specs.internal.Lists.{stored, marked}
-use Rattle.lists.proofs.PartLaws.{came-start, came-turn}
-use Rattle.lists.proofs.ListLaws.{PartsRead, all-snoc}
+use Rattle.items.proofs.PartLaws.{all-snoc, came-start, came-turn}
+use Rattle.lists.proofs.ListLaws.{PartsRead}
 use Rattle.lists.proofs.StoreLaws.{stored-small}
 
 -- ── One more atom ──

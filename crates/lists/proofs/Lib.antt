@@ -1,6 +1,6 @@
--- Laws of entries stored, of the parts of a list, and of lists of literals, of terms and pairs, and of named atoms.
+-- Laws of entries stored, of lists of parts, and of lists of literals, of terms, of pairs, and of named atoms.
 pub mod StoreLaws
-pub mod PartLaws
 pub mod ListLaws
 pub mod TermLaws
+pub mod PairLaws
 pub mod AtomLaws

@@ -1,8 +1,8 @@
 -- Lists of parts, as the code's loops read them: how many, whether they are within their limits, and what was stored.
 -- Assumes nothing.
-use Prim.Native.Nat.{ℕ, suc, _+_, _*_, _≤_}
+use Prim.Native.Nat.{ℕ, _+_, _*_, _≤_}
 use mathlib.Core.Path.{_≡_, refl, sym, ap, _∙_}
-use mathlib.Core.Bool.{Bool, true, false, cond, _&&_, and-true, and-assoc}
+use mathlib.Core.Bool.{Bool, true, false, cond, _&&_}
 use mathlib.Core.List.{List, [], _∷_, _++_, map, map-append}
 use native.Mathlib.Omega.{arith}
 use lib.Dec.{ltb}
@@ -26,22 +26,8 @@ use Rattle.judging.specs.Judging.{literalWithin}
 use Rattle.lists.specs.declared.Parts.{Parts}
 use Rattle.lists.specs.declared.Parts.the-variants.{Listed, NoList}
 use Rattle.lists.specs.internal.Lists.{stored, listed, Lists}
-use Rattle.lists.proofs.StoreLaws.{stored-small}
-use Rattle.lists.proofs.PartLaws.{Came, came-start, came-turn, came-refused, came-unclosed, came-end}
-
--- One more part at the end of a list.
-module _ {A : Type 0} where
-  pub all-snoc : (p : A → Bool) (xs : List A) (x : A) → all p (xs ++ (x ∷ [])) ≡ (all p xs && p x)
-  unfolding all
-  all-snoc p [] x = and-true (p x)
-  all-snoc p (y ∷ ys) x = rw (all-snoc p ys x) (sym (and-assoc (p y) (all p ys) (p x)))
-
-  sets-snoc :
-      (table : List A) (from : ℕ) (xs : List A) (x : A) → sets table from (xs ++ (x ∷ [])) ≡ set (sets table from xs) (from + length xs) x
-  sets-snoc table from [] x = let e : from + 0 ≡ from = omega arith in rw e
-  sets-snoc table from (y ∷ ys) x =
-      let e : from + suc (length ys) ≡ suc from + length ys = omega arith in
-      rw e (sets-snoc (set table from y) (suc from) ys x)
+use Rattle.lists.proofs.StoreLaws.{stored-small, sets-behind}
+use Rattle.items.proofs.PartLaws.{Came, all-snoc, came-start, came-turn, came-refused, came-unclosed, came-end}
 
 -- One more part, stored after the others.
 module _ {A B : Type 0} (f : A → B) (before : List B) (from : ℕ) (xs : List A) (x : A) where
@@ -50,32 +36,32 @@ module _ {A B : Type 0} (f : A → B) (before : List B) (from : ℕ) (xs : List 
       after ≡ sets before from (map f (xs ++ (x ∷ [])))
   laid-more {now} {after} {place} p e s =
       let here : place ≡ from + length (map f xs) = omega (arith, length-map xs f) in
-      rw (map-append f xs (x ∷ []), sets-snoc before from (map f xs) (f x), ← here, ← e) s
+      rw (map-append f xs (x ∷ []), ← sets-behind before (map f xs) (f x ∷ []) from place here, ← e) s
 
 -- A loop over parts has come to `next`: it has read some, counted them and tested them; W says of them what was stored.
 module _ {A : Type 0} where
-  pub record PartsRead (item : List ℕ → Reading A) (within : A → Bool) (rising : List A → Bool) (text : List ℕ) (at next count : ℕ) (fine rise : Bool) (W : List A → Type 0) : Type 0 where
+  pub record PartsRead (item : List ℕ → Reading A) (within : A → Bool) (ordered : List A → Bool) (text : List ℕ) (at next count : ℕ) (fine rise : Bool) (W : List A → Type 0) : Type 0 where
     pub xs : List A
     pub came : Came item text at next xs
     pub counted : count ≡ length xs
     pub tested : fine ≡ all within xs
-    pub rises : rise ≡ rising xs
+    pub rises : rise ≡ ordered xs
     pub laid : all within xs ≡ true → W xs
 
   pub listing-start :
-      {item : List ℕ → Reading A} {within : A → Bool} {rising : List A → Bool} {text : List ℕ} {at : ℕ} {W : List A → Type 0} →
-      at ≤ length text → true ≡ rising [] → W [] → PartsRead item within rising text at at 0 true true W
+      {item : List ℕ → Reading A} {within : A → Bool} {ordered : List A → Bool} {text : List ℕ} {at : ℕ} {W : List A → Type 0} →
+      at ≤ length text → true ≡ ordered [] → W [] → PartsRead item within ordered text at at 0 true true W
   unfolding all
   listing-start l r w = record { xs = []; came = came-start l; counted = refl; tested = refl; rises = r; laid = λ t. w }
 
-module _ {A : Type 0} (bytes : A → List ℕ) (item : List ℕ → Reading A) (inverse : Inverse bytes item) {within : A → Bool} {rising : List A → Bool}
-    {text : List ℕ} {at next count : ℕ} {fine rise : Bool} {W : List A → Type 0} (listing : PartsRead item within rising text at next count fine rise W) where
+module _ {A : Type 0} (bytes : A → List ℕ) (item : List ℕ → Reading A) (inverse : Inverse bytes item) {within : A → Bool} {ordered : List A → Bool}
+    {text : List ℕ} {at next count : ℕ} {fine rise : Bool} {W : List A → Type 0} (listing : PartsRead item within ordered text at next count fine rise W) where
   pub listing-turn :
       {after : ℕ} {x : A} {more : ℕ} {fine₁ rise₁ : Bool} {W₁ : List A → Type 0} → wordAt text next (space ∷ []) ≡ true →
       GotAt item text (next + 1) after x →
-      more ≡ count + 1 → fine₁ ≡ (fine && within x) → rise₁ ≡ rising (listing .xs ++ (x ∷ [])) →
+      more ≡ count + 1 → fine₁ ≡ (fine && within x) → rise₁ ≡ ordered (listing .xs ++ (x ∷ [])) →
       ((ys : List A) → length ys ≡ count → all within ys ≡ true → within x ≡ true → W ys → W₁ (ys ++ (x ∷ []))) →
-      PartsRead item within rising text at after more fine₁ rise₁ W₁
+      PartsRead item within ordered text at after more fine₁ rise₁ W₁
   listing-turn {after} {x} {more} {fine₁} {rise₁} {W₁} h g m f r store =
       let ys = listing .xs in
       let both : all within (ys ++ (x ∷ [])) ≡ (all within ys && within x) = all-snoc within ys x in
@@ -92,22 +78,22 @@ module _ {A : Type 0} (bytes : A → List ℕ) (item : List ℕ → Reading A) (
 
   none :
       (answer : Parts) → NoList ≡ answer → parts item (drop at text) ≡ refused →
-      Lists text within rising (parts item (drop at text)) answer W
+      Lists text within ordered (parts item (drop at text)) answer W
   unfolding listed
   none answer a e = record { answered = rw e (sym a); laid = rw e tt }
 
   pub listing-refused :
       wordAt text next (space ∷ []) ≡ true → item (drop (next + 1) text) ≡ refused →
-      Lists text within rising (parts item (drop at text)) NoList W
+      Lists text within ordered (parts item (drop at text)) NoList W
   listing-refused h e = none NoList refl (came-refused bytes item inverse (listing .came) h e)
 
   pub listing-unclosed :
       wordAt text next (space ∷ []) ≡ false → wordAt text next (closing ∷ []) ≡ false →
-      Lists text within rising (parts item (drop at text)) NoList W
+      Lists text within ordered (parts item (drop at text)) NoList W
   listing-unclosed s c = none NoList refl (came-unclosed bytes item inverse (listing .came) s c)
 
   pub listing-end :
-      wordAt text next (closing ∷ []) ≡ true → Lists text within rising (parts item (drop at text)) (Listed count fine rise (next + 1)) W
+      wordAt text next (closing ∷ []) ≡ true → Lists text within ordered (parts item (drop at text)) (Listed count fine rise (next + 1)) W
   unfolding listed
   listing-end c =
       let e = came-end bytes item inverse (listing .came) c in

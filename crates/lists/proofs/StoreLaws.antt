@@ -4,7 +4,7 @@ use Prim.Native.Nat.{ℕ, suc, _+_, _-_, _≤_, _<_}
 use mathlib.Core.Path.{_≡_, refl, sym, ap, _∙_}
 use mathlib.Core.Logic.{⊎-elim}
 use mathlib.Core.Bool.{Bool, true, false}
-use mathlib.Core.List.{List, [], _∷_}
+use mathlib.Core.List.{List, [], _∷_, _++_}
 use native.Mathlib.Numerals.{add-one}
 use native.Mathlib.Omega.{arith}
 use lib.Dec.{ltb, leb}
@@ -38,6 +38,11 @@ module _ {A : Type 0} where
   unfolding stored
   stored-beyond true table place entry h = sym (set-out table place entry h)
   stored-beyond false table place entry h = refl
+
+  -- Entries set behind others are set with them.
+  pub sets-behind : (held xs ys : List A) (n m : ℕ) → m ≡ n + length xs → sets (sets held n xs) m ys ≡ sets held n (xs ++ ys)
+  sets-behind held [] ys n m e = let same : m ≡ n = omega arith in rw same
+  sets-behind held (x ∷ xs) ys n m e = sets-behind (set held n x) xs ys (suc n) m (omega arith)
 
 -- Minutes within their limits have 16 bits.
 minutes-fit : (z : ℤ) → natAbs z ≤ maxMinutes → SFits w16 z

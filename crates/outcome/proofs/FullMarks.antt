@@ -18,7 +18,8 @@ use Rattle.tables.specs.Sound.{Tables, lent, tableTests, Slice, sliceTest, mark
 use Rattle.tables.proofs.Faults.{refused-among, absent-dropped}
 use Rattle.tables.proofs.SoundTables.{lent-order, marks-fault}
 use Rattle.satisfaction.specs.Satisfied.{clauseTest, loadTest, satisfactionTests}
-use Rattle.checker.specs.Check.{valueTest, levelTest, supportTest, blockingTest, levelTests, claimTests, checkTests, checkOf}
+use Rattle.checker.specs.Check.{claimTests, checkTests, checkOf}
+use Rattle.checker.proofs.ClaimFaults.{claim-faults}
 use Rattle.evaluator.specs.Evaluate.{settingTest, undecidedTest, refusalTests, modelTests}
 use Rattle.judging.specs.declared.reached.Reached.{Reached}
 use Rattle.judging.specs.declared.reached.Judged.the-variants.{Passed}
@@ -63,10 +64,10 @@ abbrev otherFault : Fault → Bool
 otherFault fault = not (eqb (faultNumber fault) 31)
 
 no-mark-test : (t : Tables) → MarksFit t → NeverGiven Mark t
-unfolding checkOf checkTests refusalTests tableTests sliceTest claimTests valueTest levelTests levelTest supportTest blockingTest settingTest modelTests undecidedTest satisfactionTests clauseTest loadTest all
+unfolding checkOf checkTests refusalTests tableTests sliceTest settingTest modelTests undecidedTest satisfactionTests clauseTest loadTest all
 no-mark-test t fit =
     record {
-      check = λ values levels at e. false≢true (refused-among otherFault _ refl Mark at (sym (marks-left-out t fit _ (claimTests t values levels)) ∙ e));
+      check = λ values levels at e. false≢true (refused-among otherFault _ (claim-faults otherFault refl t values levels) Mark at (sym (marks-left-out t fit _ (claimTests t values levels)) ∙ e));
       stops = λ given slices at e. false≢true (refused-among otherFault _ refl Mark at (sym (marks-left-out t fit slices _) ∙ e));
       model = λ model at e. false≢true (refused-among otherFault (modelTests t model) refl Mark at e);
     }

@@ -16,7 +16,8 @@ use Rattle.tables.specs.Faults.{faultNumber, numberOf}
 use Rattle.tables.specs.Sound.{Tables, tableTests, sliceTest, markCountTest, markTest, lentTests}
 use Rattle.tables.proofs.Faults.{refused-among}
 use Rattle.satisfaction.specs.Satisfied.{clauseTest, loadTest, satisfactionTests}
-use Rattle.checker.specs.Check.{valueTest, levelTest, supportTest, blockingTest, levelTests, claimTests, checkTests, checkOf}
+use Rattle.checker.specs.Check.{checkTests, checkOf}
+use Rattle.checker.proofs.ClaimFaults.{claim-faults}
 use Rattle.evaluator.specs.Evaluate.{settingTest, undecidedTest, refusalTests, modelTests}
 use Rattle.judging.specs.LentTables.{fullSize}
 use Rattle.judging.specs.Books.{FullSpace}
@@ -34,10 +35,10 @@ abbrev otherFault : Fault → Bool
 otherFault fault = not (eqb (faultNumber fault) 4 || (eqb (faultNumber fault) 32 || eqb (faultNumber fault) 33))
 
 no-such-test : (fault : Fault) → otherFault fault ≡ false → (t : Tables) → NeverGiven fault t
-unfolding checkOf checkTests refusalTests lentTests tableTests sliceTest markCountTest markTest claimTests valueTest levelTests levelTest supportTest blockingTest settingTest modelTests undecidedTest satisfactionTests clauseTest loadTest all
+unfolding checkOf checkTests refusalTests lentTests tableTests sliceTest markCountTest markTest settingTest modelTests undecidedTest satisfactionTests clauseTest loadTest all
 no-such-test fault none t =
     record {
-      check = λ values levels at e. clash (refused-among otherFault (checkTests t values levels) refl fault at e) none;
+      check = λ values levels at e. clash (refused-among otherFault (checkTests t values levels) (claim-faults otherFault refl t values levels) fault at e) none;
       stops = λ given slices at e. clash (refused-among otherFault (refusalTests t given slices) refl fault at e) none;
       model = λ model at e. clash (refused-among otherFault (modelTests t model) refl fault at e) none;
     }

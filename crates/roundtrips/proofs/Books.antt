@@ -27,12 +27,13 @@ use Rattle.format.specs.Views.{viewOf, ofKind, sameKind, kindNumber}
 use Rattle.judging.specs.declared.reached.Reached.{Reached}
 use Rattle.judging.specs.declared.reached.Space.{Space}
 use Rattle.judging.specs.LentTables.{Table, Rules, Literals, Clauses, Loads, LoadLiterals, Minutes, Marks, Values, Levels, roomIn}
-use Rattle.judging.specs.States.{nothingYet, claimStood, start, countIn, valuesCounted, levelsCounted, countsWithin, fits}
-use Rattle.judging.specs.Judging.{literalWithin, termWithin, pairWithin, boundWithin, atomBound, numbersWithin, risesFrom, partsInOrder}
+use Rattle.judging.specs.States.{nothingYet, claimStood, start, groupsReached, countIn, valuesCounted, levelsCounted, countsWithin, fits}
+use Rattle.judging.specs.Judging.{literalWithin, termWithin, pairWithin, boundWithin, atomBound, numbersWithin, risesFrom, partsInOrder, levelsFor, levelled}
 use Rattle.judging.specs.Books.{afterAll, isState, InSequence, IsBook}
 use Rattle.judging.proofs.TableLaws.{each-table}
 use Rattle.judging.proofs.StateLaws.{values-told, levels-told}
 use Rattle.judging.proofs.Counts.{CountsWithin, within-counts, each-fits}
+use Rattle.booktext.proofs.UsedLaws.{one-group-read, one-level}
 use Rattle.writing.specs.BookForms.{literalText, termText, ruleFormOf, clauseFormOf, loadFormOf, markedAtoms, definedForms, pairsOf, bookForms}
 use Rattle.writing.specs.Writing.{literalsByRow, termsByRow}
 use Rattle.roundtrips.specs.RoundTrips.{takenIn, Writable}
@@ -68,7 +69,7 @@ book-sequence t values levels =
       rules = map ruleFormOf (rulesOf (t .rules) (t .literals));
       clauses = map clauseFormOf (clausesOf (t .clauses) (t .literals));
       loads = map loadFormOf (loadsOf (t .loads) (t .loadLiterals) (t .minutes));
-      state = claimForm (pairsOf (t .atoms) values levels);
+      state = claimForm (pairsOf (t .atoms) 1 values levels);
       areAtoms = refl;
       areDefined = defined-kinds (markedAtoms (t .atoms) (t .marks)) .0;
       oneDefined = defined-kinds (markedAtoms (t .atoms) (t .marks)) .1;
@@ -109,6 +110,34 @@ claim-within :
     (s : Reached) (pairs : List PairText) → all pairWithin pairs ≡ true → length pairs ≤ maxAtoms → numbersWithin s (claimForm pairs) ≡ true
 unfolding numbersWithin viewOf boundWithin all
 claim-within s pairs each few = rw (each, le-leb (length pairs) maxAtoms few)
+
+-- A form without pairs is levelled, and so is a claim with a level for each group.
+rule-levelled : (s : Reached) (r : Rule) → levelled s (ruleFormOf r) ≡ true
+unfolding levelled all viewOf ruleFormOf
+rule-levelled s r = refl
+
+clause-levelled : (s : Reached) (c : List ℕ) → levelled s (clauseFormOf c) ≡ true
+unfolding levelled all viewOf clauseFormOf
+clause-levelled s c = refl
+
+load-levelled : (s : Reached) (l : Load) → levelled s (loadFormOf l) ≡ true
+unfolding levelled all viewOf loadFormOf
+load-levelled s l = refl
+
+atoms-levelled : (s : Reached) (n : ℕ) → levelled s (atomsForm n) ≡ true
+unfolding levelled all viewOf
+atoms-levelled s n = refl
+
+defined-levelled : (s : Reached) (atoms : List ℕ) → all (levelled s) (definedForms atoms) ≡ true
+unfolding levelled all viewOf definedForms
+defined-levelled s [] = refl
+defined-levelled s (a ∷ atoms) = refl
+
+claim-levelled :
+    (s : Reached) (n groups : ℕ) (values levels : List ℕ) → groupsReached s ≡ groups → levelled s (claimForm (pairsOf n groups values levels)) ≡ true
+unfolding levelled levelsFor viewOf pairsOf
+claim-levelled s n groups values levels e =
+    all-tabulate (levelsFor (groupsReached s)) n _ (λ k l. eq-eqb _ _ (length-tabulate groups _ ∙ sym e))
 
 -- A form without atoms and without pairs has its parts in order.
 rule-ordered : (s : Reached) (r : Rule) → partsInOrder s (ruleFormOf r) ≡ true
@@ -201,13 +230,14 @@ module _ (t : Tables) (none : (test : Test) → List·Memᴰ test (tableTests t)
       unfolding atomBound
       bound-size = rw (ne-eqb (s .phase) nothingYet (λ e. omega arith)) size
 
-      pairs-within : Writable values levels → all pairWithin (pairsOf (t .atoms) values levels) ≡ true
+      pairs-within : Writable values levels → all pairWithin (pairsOf (t .atoms) 1 values levels) ≡ true
       unfolding pairsOf pairWithin
       pairs-within w =
           all-tabulate pairWithin (t .atoms) _ (λ k l.
-          both (leb (getD values k 0) maxValue) _ (le-leb _ _ (w .small k)) (le-leb _ _ (w .low k)))
+          both (leb (getD values k 0) maxValue) _ (le-leb _ _ (w .small k))
+          (all-tabulate (λ level. leb level maxLevel) 1 _ (λ group h. le-leb _ _ (w .low (group * t .atoms + k)))))
 
-      pairs-many : length (pairsOf (t .atoms) values levels) ≡ t .atoms
+      pairs-many : length (pairsOf (t .atoms) 1 values levels) ≡ t .atoms
       unfolding pairsOf
       pairs-many = length-tabulate _ _
 
@@ -216,22 +246,34 @@ module _ (t : Tables) (none : (test : Test) → List·Memᴰ test (tableTests t)
       forms-within w =
           all-parts (numbersWithin s) (atomsForm (t .atoms)) (definedForms (markedAtoms (t .atoms) (t .marks)))
           (map ruleFormOf (rulesOf (t .rules) (t .literals))) (map clauseFormOf (clausesOf (t .clauses) (t .literals)))
-          (map loadFormOf (loadsOf (t .loads) (t .loadLiterals) (t .minutes))) (claimForm (pairsOf (t .atoms) values levels))
+          (map loadFormOf (loadsOf (t .loads) (t .loadLiterals) (t .minutes))) (claimForm (pairsOf (t .atoms) 1 values levels))
           (atoms-within s (t .atoms) (sound-sizes t none .fewAtoms))
           (defined-within s (markedAtoms (t .atoms) (t .marks)) (rw bound-size (marked-below (t .atoms) (t .marks)))) rules-within clauses-within loads-within
-          (claim-within s (pairsOf (t .atoms) values levels) (pairs-within w) (omega (arith, pairs-many, sound-sizes t none .fewAtoms)))
+          (claim-within s (pairsOf (t .atoms) 1 values levels) (pairs-within w) (omega (arith, pairs-many, sound-sizes t none .fewAtoms)))
+
+      forms-levelled : all (levelled s) (bookForms t values levels) ≡ true
+      unfolding bookForms
+      forms-levelled =
+          all-parts (levelled s) (atomsForm (t .atoms)) (definedForms (markedAtoms (t .atoms) (t .marks)))
+          (map ruleFormOf (rulesOf (t .rules) (t .literals))) (map clauseFormOf (clausesOf (t .clauses) (t .literals)))
+          (map loadFormOf (loadsOf (t .loads) (t .loadLiterals) (t .minutes))) (claimForm (pairsOf (t .atoms) 1 values levels))
+          (atoms-levelled s (t .atoms)) (defined-levelled s (markedAtoms (t .atoms) (t .marks)))
+          (all-mapped (levelled s) ruleFormOf (rule-levelled s) (rulesOf (t .rules) (t .literals)))
+          (all-mapped (levelled s) clauseFormOf (clause-levelled s) (clausesOf (t .clauses) (t .literals)))
+          (all-mapped (levelled s) loadFormOf (load-levelled s) (loadsOf (t .loads) (t .loadLiterals) (t .minutes)))
+          (claim-levelled s (t .atoms) 1 values levels (one-group-read s))
 
       forms-ordered : all (partsInOrder s) (bookForms t values levels) ≡ true
       unfolding bookForms
       forms-ordered =
           all-parts (partsInOrder s) (atomsForm (t .atoms)) (definedForms (markedAtoms (t .atoms) (t .marks)))
           (map ruleFormOf (rulesOf (t .rules) (t .literals))) (map clauseFormOf (clausesOf (t .clauses) (t .literals)))
-          (map loadFormOf (loadsOf (t .loads) (t .loadLiterals) (t .minutes))) (claimForm (pairsOf (t .atoms) values levels))
+          (map loadFormOf (loadsOf (t .loads) (t .loadLiterals) (t .minutes))) (claimForm (pairsOf (t .atoms) 1 values levels))
           (atoms-ordered s (t .atoms)) (defined-ordered s (markedAtoms (t .atoms) (t .marks)) (marked-rises (t .atoms) (t .marks)))
           (all-mapped (partsInOrder s) ruleFormOf (rule-ordered s) (rulesOf (t .rules) (t .literals)))
           (all-mapped (partsInOrder s) clauseFormOf (clause-ordered s) (clausesOf (t .clauses) (t .literals)))
           (all-mapped (partsInOrder s) loadFormOf (load-ordered s) (loadsOf (t .loads) (t .loadLiterals) (t .minutes)))
-          (claim-ordered s (pairsOf (t .atoms) values levels) (pairs-many ∙ sym size))
+          (claim-ordered s (pairsOf (t .atoms) 1 values levels) (pairs-many ∙ sym size))
 
   -- The state at the end counts what the tables take.
   pub taken-counted : (s : Reached) → Counted t s → (table : Table) → countIn s table ≡ takenIn t table
@@ -239,7 +281,7 @@ module _ (t : Tables) (none : (test : Test) → List·Memᴰ test (tableTests t)
   taken-counted s k =
       let sizes = sound-sizes t none in
       let values : valuesCounted s ≡ t .atoms = values-told s (omega (arith, k .stood)) ∙ k .size in
-      let levels : levelsCounted s ≡ t .atoms = levels-told s (omega (arith, k .stood)) ∙ k .size in
+      let levels : levelsCounted s ≡ t .atoms = levels-told s (omega (arith, k .stood)) ∙ sym (one-level s) ∙ k .size in
       each-table (λ table. countIn s table ≡ takenIn t table) (k .rules ∙ whole-rules (t .rules) (sizes .wholeRules)) (k .literals)
       (k .clauses ∙ whole-clauses (t .clauses) (sizes .wholeClauses)) (k .loads ∙ whole-loads (t .loads) (sizes .wholeLoads)) (k .terms) (k .terms)
       values values levels
@@ -254,6 +296,7 @@ module _ (t : Tables) (none : (test : Test) → List·Memᴰ test (tableTests t)
         let sizes = sound-sizes t none in
         record {
           sequence = book-sequence t values levels;
+          levels = forms-levelled s values levels (k .size) (k .stood);
           numbers = forms-within s values levels (k .size) (k .stood) writable;
           counts =
               within-counts s (record {

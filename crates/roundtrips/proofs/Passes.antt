@@ -37,6 +37,7 @@ use Rattle.forms.specs.Entries.{literalsIn, termsIn, entriesOf, givenAnew, join
 use Rattle.booktext.specs.UsedParts.{tablesOf}
 use Rattle.writing.specs.BookForms.{literalText, termText, ruleFormOf, clauseFormOf, loadFormOf, markedAtoms, definedForms, pairsOf, bookForms}
 use Rattle.writing.specs.Writing.{literalsByRow, termsByRow}
+use Rattle.writing.proofs.WriteLaws.{one-sized}
 use Rattle.roundtrips.specs.RoundTrips.{takenIn, SameBook, Consecutive}
 use Rattle.roundtrips.proofs.ListTests.{all-both, all-tabulate, all-take, all-drop, all-entry, all-row, all-weaker, all-parts, all-map, all-rows}
 use Rattle.roundtrips.proofs.Counted.{book-counted}
@@ -149,12 +150,12 @@ module _ (t : Tables) (none : (test : Test) → List·Memᴰ test (tableTests t)
       let n = t .atoms in
       all-parts (formGood n) (atomsForm n) (definedForms (markedAtoms n (t .marks)))
       (map ruleFormOf (rulesOf (t .rules) (t .literals))) (map clauseFormOf (clausesOf (t .clauses) (t .literals)))
-      (map loadFormOf (loadsOf (t .loads) (t .loadLiterals) (t .minutes))) (claimForm (pairsOf n values levels))
+      (map loadFormOf (loadsOf (t .loads) (t .loadLiterals) (t .minutes))) (claimForm (pairsOf n 1 values levels))
       (atoms-good n n) (defined-good n (markedAtoms n (t .marks)))
       (all-rows (formGood n) ruleFormOf (ruleCount (t .rules)) (ruleAt (t .rules) (t .literals)) (λ row l. rule-good n _ (body-good _ _)))
       (all-rows (formGood n) clauseFormOf (clauseCount (t .clauses)) (clauseAt (t .clauses) (t .literals)) (λ row l. clause-good n _ (body-good _ _)))
       (all-rows (formGood n) loadFormOf (loadCount (t .loads)) (loadAt (t .loads) (t .loadLiterals) (t .minutes)) (λ row l. load-good n _ (terms-good row l)))
-      (claim-good n (pairsOf n values levels))
+      (claim-good n (pairsOf n 1 values levels))
 
 -- ── What comes back ──
 
@@ -315,7 +316,7 @@ module _
     claim-sized =
         let due = slices-fit (claimSlices t values levels) (lent-slices t (claimSlices t values levels) (sound .none)) in
         slices-absent (claimSlices (tablesOf size entries) values levels)
-        (sized-more (due _ (List·Memᴰ·head refl) ∙ sym atoms-same) (sized-more (due _ (List·Memᴰ·tail (List·Memᴰ·head refl)) ∙ sym atoms-same) sized-none))
+        (sized-more (due _ (List·Memᴰ·head refl) ∙ sym atoms-same) (sized-more (due _ (List·Memᴰ·tail (List·Memᴰ·head refl)) ∙ one-sized _ _ ∙ sym atoms-same ∙ sym (one-sized _ _)) sized-none))
 
     pub comes-back-sound : Sound (tablesOf size entries) (claimSlices (tablesOf size entries) values levels)
     comes-back-sound =

@@ -7,22 +7,24 @@ use mathlib.Core.Bool.{Bool, true, false, cond, false≢true}
 use mathlib.Core.List.{List, [], _∷_, _++_, map, append-nil, append-assoc}
 use native.Mathlib.Omega.{arith}
 use lib.Dec.{eqb, ltb}
-use lib.ListN.{length, getD}
+use lib.ListN.{length}
 use borrow.Author.Tests.{eqb-true, ne-eqb}
-use Rattle.wellfounded.specs.Lists.{all, tabulate}
+use Rattle.wellfounded.specs.Lists.{all}
 use Rattle.wellfounded.proofs.Tests.{first, second, either}
 use Rattle.tables.specs.Rows.{rulesOf, clausesOf}
 use Rattle.tables.specs.Loads.{loadsOf}
 use Rattle.tables.specs.Sound.{Tables, lent}
 use Rattle.format.specs.declared.kinds.Kind.{Kind}
 use Rattle.format.specs.declared.kinds.Kind.the-variants as FormKind
-use Rattle.format.specs.Forms.{PairText, Form, atomsForm, ruleForm, clauseForm, loadForm, openForm, claimForm, definedForm}
+use Rattle.format.specs.Forms.{Form, atomsForm, ruleForm, clauseForm, loadForm, openForm, claimForm, definedForm}
 use Rattle.format.specs.Views.{viewOf, kindIn, ofKind, sameKind, kindNumber}
 use Rattle.format.proofs.ViewLaws.{of-kind}
 use Rattle.judging.specs.declared.reached.Reached.{Reached}
+use Rattle.items.specs.Items.{levelColumns}
+use Rattle.items.proofs.PartLaws.{all-snoc}
 use Rattle.judging.specs.LentTables.{Rules, Literals, Clauses, Loads, LoadLiterals, Minutes, Marks, Values, Levels}
-use Rattle.judging.specs.States.{nothingYet, claimStood, openStood, start, phaseAfter, advanced, after}
-use Rattle.judging.specs.Judging.{atomBound, numbersWithin, risesFrom, partsInOrder}
+use Rattle.judging.specs.States.{nothingYet, claimStood, openStood, start, phaseAfter, advanced, after, groupsReached}
+use Rattle.judging.specs.Judging.{atomBound, numbersWithin, risesFrom, partsInOrder, levelsFor, levelled}
 use Rattle.judging.specs.Books.{afterAll, isState, InSequence}
 use Rattle.judging.proofs.LimitLaws.{atoms-limit}
 use Rattle.judging.proofs.Walking.{after-more}
@@ -33,11 +35,13 @@ use Rattle.forms.proofs.Decodes.{rules-decode, clauses-decode, loads-decode}
 use Rattle.forms.proofs.Marked.{marks-decode, declared-by-form}
 use Rattle.booktext.specs.GivenEntries.{ClaimEntries}
 use Rattle.booktext.specs.UsedParts.{tablesOf}
+use Rattle.booktext.proofs.UsedLaws.{one-group-read}
 use Rattle.writing.specs.BookForms.{markedAtoms, definedForms, pairsOf, ruleFormOf, clauseFormOf, loadFormOf, bookForms}
 use Rattle.roundtrips.proofs.ListTests.{all-left, all-one}
 use Rattle.roundtrips.proofs.Counted.{later-parts}
 use Rattle.roundtrips.proofs.MarkedAtoms.{marked-again}
 use Rattle.roundtrips.proofs.Decoding.{rules-of-book, clauses-of-book, loads-of-book, rules-written, clauses-written, loads-written}
+use Rattle.roundtrips.proofs.Columns.{pairs-again}
 use Rattle.roundtrips.proofs.WrittenRead.{before-state, state-last, declared-again}
 
 -- ── Single forms, by their kinds ──
@@ -78,14 +82,6 @@ unfolding all
 defined-again [] h few = unfold declaredIn definedForms in refl
 defined-again (d ∷ []) h few = let e = defined-form d (first (ofKind FormKind.Defined d) _ h) in ap definedForms (ap declaredIn (sym e) ∙ declared-again (viewOf d .atoms)) ∙ e
 defined-again (d ∷ e ∷ ds) h few = absurd (omega arith)
-
--- Pairs are told by their values and levels.
-pairs-again :
-    (ps : List PairText) →
-    tabulate (length ps) (λ (k : ℕ). record { value = getD (map (λ (p : PairText). p .value) ps) k 0; level = getD (map (λ (p : PairText). p .level) ps) k 0 }) ≡ ps
-unfolding tabulate
-pairs-again [] = refl
-pairs-again (p ∷ ps) = ap (λ (qs : List PairText). p ∷ qs) (pairs-again ps)
 
 -- ── A book that was read ──
 
@@ -162,7 +158,9 @@ module _ (fs : List Form) (q : InSequence fs) where
       (λ c. c) (either (ofKind FormKind.Open (q .state)) _ (q .tellsState))
 
   -- The atoms that it declares defined rise below N.
-  module _ (ordered : all (partsInOrder (afterAll start fs)) fs ≡ true) (numbers : all (numbersWithin (afterAll start fs)) fs ≡ true) where
+  module _
+      (ordered : all (partsInOrder (afterAll start fs)) fs ≡ true) (numbers : all (numbersWithin (afterAll start fs)) fs ≡ true)
+      (levels : all (levelled (afterAll start fs)) fs ≡ true) where
     defined-tested :
         (p : Form → Bool) → all p fs ≡ true → all p (q .defined) ≡ true
     unfolding all
@@ -182,11 +180,19 @@ module _ (fs : List Form) (q : InSequence fs) where
         ∙ marked-again (end .size) (declaredIn (q .defined)) rises (rw bound at below))
         ∙ defined-again (q .defined) (q .areDefined) (q .oneDefined)
 
+    -- The state form has a level for each group in each pair.
+    state-levelled : all (levelsFor (groupsReached (afterAll start fs))) (viewOf (q .state) .pairs) ≡ true
+    unfolding levelled
+    state-levelled =
+        let end = afterAll start fs in
+        second (all (levelled end) (before-state fs q)) (levelled end (q .state))
+        (sym (all-snoc (levelled end) (before-state fs q) (q .state)) ∙ (sym (ap (λ (gs : List Form). all (levelled end) gs) (state-last fs q)) ∙ levels))
+
     -- The forms of what was read are the forms that were read.
     pub forms-again :
-        afterAll start fs .phase ≡ claimStood → ClaimEntries (afterAll start fs .size) (viewOf (q .state) .pairs) (bookEntries fs) →
+        afterAll start fs .phase ≡ claimStood → ClaimEntries (afterAll start fs .size) (groupsReached (afterAll start fs)) (viewOf (q .state) .pairs) (bookEntries fs) →
         bookForms (tablesOf (afterAll start fs .size) (bookEntries fs)) (bookEntries fs Values) (bookEntries fs Levels) ≡ fs
-    unfolding bookForms tablesOf lent pairsOf
+    unfolding bookForms tablesOf lent
     forms-again stood entered =
         let atoms : atomsForm (afterAll start fs .size) ≡ q .atoms = ap atomsForm size-told ∙ atoms-form (q .atoms) (q .areAtoms) in
         let rules : map ruleFormOf (rulesOf (bookEntries fs Rules) (bookEntries fs Literals)) ≡ q .rules =
@@ -195,8 +201,12 @@ module _ (fs : List Form) (q : InSequence fs) where
         ap (map clauseFormOf) (clauses-decode fs ∙ clauses-of-book fs q) ∙ clauses-written (q .clauses) (q .areClauses) in
         let loads : map loadFormOf (loadsOf (bookEntries fs Loads) (bookEntries fs LoadLiterals) (bookEntries fs Minutes)) ≡ q .loads =
         ap (map loadFormOf) (loads-decode fs ∙ loads-of-book fs q) ∙ loads-written (q .loads) (q .areLoads) in
-        let state : claimForm (pairsOf (afterAll start fs .size) (bookEntries fs Values) (bookEntries fs Levels)) ≡ q .state =
-        rw (← (entered .many), entered .values, entered .levels) (ap claimForm (pairs-again (viewOf (q .state) .pairs)) ∙ claim-form (q .state) (claims stood)) in
+        let pairs = viewOf (q .state) .pairs in
+        let one = one-group-read (afterAll start fs) in
+        let told : bookEntries fs Levels ≡ levelColumns 1 pairs = entered .levels ∙ ap (λ (groups : ℕ). levelColumns groups pairs) one in
+        let full : all (levelsFor 1) pairs ≡ true = ap (λ (groups : ℕ). all (levelsFor groups) pairs) (sym one) ∙ state-levelled in
+        let state : claimForm (pairsOf (afterAll start fs .size) 1 (bookEntries fs Values) (bookEntries fs Levels)) ≡ q .state =
+        rw (← (entered .many), entered .values, told) (ap claimForm (pairs-again 1 pairs full) ∙ claim-form (q .state) (claims stood)) in
         rw (atoms, marks-told stood, rules, clauses, loads, state) (sym (q .whole))
 
 -- The claim of a book that ends with one.

@@ -18,8 +18,8 @@ use Rattle.judging.specs.declared.reached.Reached.{Reached}
 use Rattle.judging.specs.declared.reached.Judged.{Judged}
 use Rattle.judging.specs.declared.reached.Judged.the-variants.{Passed, Failed}
 use Rattle.judging.specs.LentTables.{Table, Values, Levels}
-use Rattle.judging.specs.States.{openStood, claimStood, start, countIn}
-use Rattle.judging.specs.Judging.{numbersWithin, partsInOrder, judgeText, formsOf}
+use Rattle.judging.specs.States.{openStood, claimStood, start, groupsReached, countIn}
+use Rattle.judging.specs.Judging.{numbersWithin, partsInOrder, levelled, judgeText, formsOf}
 use Rattle.judging.specs.Books.{afterAll, InSequence, BookText}
 use Rattle.judging.proofs.Counts.{counts-within}
 use Rattle.judging.proofs.Accepted.{accepted-book, book-passed}
@@ -77,10 +77,10 @@ answer-claims (Failed fault at) e = let z : _≡_ {A = ℕ} 0 2 = ap stateNumber
 
 again-from :
     (fs : List Form) (q : InSequence fs) → all (partsInOrder (afterAll start fs)) fs ≡ true → all (numbersWithin (afterAll start fs)) fs ≡ true →
-    (s : Reached) (gs : List Form) → s ≡ afterAll start fs → gs ≡ fs → s .phase ≡ claimStood →
-    ClaimEntries (s .size) (viewOf (q .state) .pairs) (bookEntries gs) →
+    all (levelled (afterAll start fs)) fs ≡ true → (s : Reached) (gs : List Form) → s ≡ afterAll start fs → gs ≡ fs → s .phase ≡ claimStood →
+    ClaimEntries (s .size) (groupsReached s) (viewOf (q .state) .pairs) (bookEntries gs) →
     bookForms (tablesOf (s .size) (bookEntries gs)) (bookEntries gs Values) (bookEntries gs Levels) ≡ fs
-again-from fs q ordered numbers s gs e d stood entered = rw (e, d) (forms-again fs q ordered numbers (rw e at stood) (rw (e, d) at entered))
+again-from fs q ordered numbers levels s gs e d stood entered = rw (e, d) (forms-again fs q ordered numbers levels (rw e at stood) (rw (e, d) at entered))
 
 written-back :
     (t : Tables) (values levels text before after : List ℕ) (written : Written) → writeOf t values levels (length before) ≡ Accepted →
@@ -143,7 +143,7 @@ module _ (text : List ℕ) (held : Contents) (s : Reached) (passed : judgeText (
         let ends : formsOf text ≡ before-state fs q ++ (claimForm (viewOf (q .state) .pairs) ∷ []) =
         found .3 ∙ (state-last fs q ∙ ap (λ (f : Form). before-state fs q ++ (f ∷ [])) (last-claim fs q ended)) in
         let entered = claim-entries (spaceOf held) text s passed (before-state fs q) (viewOf (q .state) .pairs) ends in
-        again-from fs q (book .ordered) (book .numbers) s (formsOf text) (found .2) (found .3) stood entered
+        again-from fs q (book .ordered) (book .numbers) (book .levels) s (formsOf text) (found .2) (found .3) stood entered
 
     read-text : textOf (tablesOf (s .size) entries) (entries Values) (entries Levels) ≡ text
     unfolding textOf

@@ -1,13 +1,10 @@
 -- A written text is read: it is accepted, and what it was written from comes back.
 -- Assumes nothing.
 use Prim.Native.Nat.{ℕ, _≤_}
-use mathlib.Core.Path.{_≡_, refl, sym, ap, _∙_}
+use mathlib.Core.Path.{_≡_, refl, ap, _∙_}
 use mathlib.Core.List.{List, [], _∷_, _++_, map, append-assoc, append-nil, List·Memᴰ, List·Memᴰ·head, List·Memᴰ·tail}
 use native.Mathlib.Omega.{arith}
-use lib.ListN.{length, getD}
-use lib.Seq.{ext-getD}
-use Rattle.wellfounded.specs.Lists.{tabulate}
-use Rattle.wellfounded.proofs.Lists.{length-tabulate, getD-tabulate}
+use lib.ListN.{length}
 use Rattle.tables.specs.Faults.{Test, Absent}
 use Rattle.tables.specs.Rows.{rulesOf, clausesOf}
 use Rattle.tables.specs.Loads.{loadsOf}
@@ -15,16 +12,17 @@ use Rattle.tables.specs.Sound.{Tables, lent, claimSlices, tableTests, MarksFit,
 use Rattle.tables.proofs.SoundTables.{lent-tables, lent-slices, lent-marks, slices-fit}
 use Rattle.format.specs.declared.kinds.Kind.the-variants as FormKind
 use Rattle.format.specs.Forms.{PairText, Form, renderAll}
+use Rattle.items.specs.Items.{levelColumns}
 use Rattle.format.specs.Views.{viewOf, ofKind, sameKind, kindNumber}
 use Rattle.judging.specs.declared.reached.Reached.{Reached}
 use Rattle.judging.specs.declared.reached.Judged.the-variants.{Passed}
 use Rattle.judging.specs.LentTables.{Table, Rules, Literals, Clauses, Loads, LoadLiterals, Minutes, Marks}
-use Rattle.judging.specs.States.{openStood, claimStood, start, countIn}
+use Rattle.judging.specs.States.{openStood, claimStood, start, groupsReached, countIn}
 use Rattle.judging.specs.Judging.{judgeText, formsOf}
 use Rattle.judging.specs.Books.{afterAll, InSequence, IsBook}
 use Rattle.judging.proofs.TableLaws.{each-table}
 use Rattle.judging.proofs.Walking.{forms-all}
-use Rattle.judging.proofs.Accepted.{book-accepted}
+use Rattle.judging.proofs.Accepted.{book-accepted, book-passed}
 use Rattle.forms.specs.Contents.{Contents, filled}
 use Rattle.forms.specs.Entries.{bookEntries}
 use Rattle.forms.specs.Decoded.{declaredBy, declaredIn}
@@ -36,14 +34,16 @@ use Rattle.booktext.specs.Answers.{spaceOf, stateOf, answerOf, contentsAfter, R
 use Rattle.booktext.specs.GivenEntries.{ClaimEntries}
 use Rattle.booktext.specs.UsedParts.{usedIn, usedParts, tablesOf}
 use Rattle.booktext.proofs.Filling.{room-held, used-counts}
-use Rattle.booktext.proofs.UsedLaws.{used-tables, used-values, used-levels}
+use Rattle.booktext.proofs.UsedLaws.{one-group-read, used-tables, used-values, used-levels}
 use Rattle.booktext.proofs.GivenEntries.{claim-entries}
 use Rattle.writing.specs.BookForms.{markedAtoms, definedForms, pairsOf, bookForms, textOf}
 use Rattle.writing.specs.Writing.{TextFits}
 use Rattle.writing.proofs.PartLaws.{map-tabulate}
+use Rattle.writing.proofs.WriteLaws.{one-sized}
 use Rattle.roundtrips.specs.RoundTrips.{takenIn, HoldsBook, Writable, SameBook, Consecutive, ReadBack}
 use Rattle.roundtrips.proofs.Counted.{Counted, book-counted}
 use Rattle.roundtrips.proofs.MarkedAtoms.{marks-again}
+use Rattle.roundtrips.proofs.Columns.{tabulate-entries, levels-again}
 use Rattle.roundtrips.proofs.Books.{rows-lie, taken-counted, book-sequence, book-is}
 use Rattle.roundtrips.proofs.Decoding.{rules-of-book, clauses-of-book, loads-of-book, rules-read, clauses-read, loads-read}
 use Rattle.roundtrips.proofs.Consecutive.{book-consecutive}
@@ -57,20 +57,11 @@ pub state-last : (fs : List Form) (q : InSequence fs) → fs ≡ before-state fs
 unfolding before-state
 state-last fs q = q .whole ∙ ap (λ (xs : List Form). q .atoms ∷ xs) (simp append-assoc)
 
-tabulate-entries : (n : ℕ) (xs : List ℕ) → length xs ≡ n → tabulate n (λ k. getD xs k 0) ≡ xs
-tabulate-entries n xs e =
-    ext-getD 0 (tabulate n (λ k. getD xs k 0)) xs (length-tabulate n _ ∙ sym e) (λ k l.
-    getD-tabulate n (λ j. getD xs j 0) k 0 (omega (arith, length-tabulate n (λ j. getD xs j 0))))
-
--- Values and levels make pairs, and the pairs give them back.
-module _ (n : ℕ) (values levels : List ℕ) where
-  values-again : length values ≡ n → map (λ (p : PairText). p .value) (pairsOf n values levels) ≡ values
-  unfolding pairsOf
-  values-again e = map-tabulate _ n _ ∙ tabulate-entries n values e
-
-  levels-again : length levels ≡ n → map (λ (p : PairText). p .level) (pairsOf n values levels) ≡ levels
-  unfolding pairsOf
-  levels-again e = map-tabulate _ n _ ∙ tabulate-entries n levels e
+-- Values make pairs, and the pairs give them back.
+values-again :
+    (n groups : ℕ) (values levels : List ℕ) → length values ≡ n → map (λ (p : PairText). p .value) (pairsOf n groups values levels) ≡ values
+unfolding pairsOf
+values-again n groups values levels e = map-tabulate _ n _ ∙ tabulate-entries n values e
 
 -- ── What the forms of a book and a claim decode to ──
 
@@ -128,7 +119,8 @@ module _
 
   forms-told : formsOf (textOf t values levels) ≡ bookForms t values levels
   unfolding textOf formsOf
-  forms-told = forms-all start (bookForms t values levels)
+  forms-told =
+      forms-all (spaceOf held) start (bookForms t values levels) (book-passed (spaceOf held) (bookForms t values levels) is-book .0 .passed)
 
   entries : Contents
   entries = bookEntries (bookForms t values levels)
@@ -137,11 +129,11 @@ module _
   unfolding entries reached
   counts = used-counts (spaceOf held) (bookForms t values levels) is-book
 
-  claim-entered : ClaimEntries (reached .size) (pairsOf (t .atoms) values levels) entries
+  claim-entered : ClaimEntries (reached .size) (groupsReached reached) (pairsOf (t .atoms) 1 values levels) entries
   unfolding entries book-sequence
   claim-entered =
       let q = book-sequence t values levels in
-      rw forms-told at (claim-entries (spaceOf held) (textOf t values levels) reached passed (before-state (bookForms t values levels) q) (pairsOf (t .atoms) values levels)
+      rw forms-told at (claim-entries (spaceOf held) (textOf t values levels) reached passed (before-state (bookForms t values levels) q) (pairsOf (t .atoms) 1 values levels)
       (forms-told ∙ state-last (bookForms t values levels) q))
 
   -- The answer for the text, and the tables that it leaves.
@@ -168,7 +160,7 @@ module _
   valued : (length values ≡ t .atoms) × (length levels ≡ t .atoms)
   valued =
       let same = slices-fit (claimSlices t values levels) (lent-slices t (claimSlices t values levels) (sound .none)) in
-      (same _ (List·Memᴰ·head refl), same _ (List·Memᴰ·tail (List·Memᴰ·head refl)))
+      (same _ (List·Memᴰ·head refl), same _ (List·Memᴰ·tail (List·Memᴰ·head refl)) ∙ one-sized _ _)
 
   same-book : SameBook t (tablesOf (reached .size) entries)
   unfolding tablesOf lent entries forms
@@ -194,6 +186,9 @@ module _
   back =
       let parts : tablesOf (reached .size) (usedParts (answerOf (Passed reached)) (filled entries held)) ≡ tablesOf (reached .size) entries =
       used-tables reached entries held counts stood in
+      let told : levelColumns (groupsReached reached) (pairsOf (t .atoms) 1 values levels) ≡ levels =
+      ap (λ (groups : ℕ). levelColumns groups (pairsOf (t .atoms) 1 values levels)) (one-group-read reached)
+      ∙ levels-again (t .atoms) 1 values levels (omega (arith, valued .1)) in
       record {
         accepted = refl;
         claimed = claimed;
@@ -201,8 +196,8 @@ module _
         same = rw parts same-book;
         consecutive = rw parts in-order;
         passes = rw parts all-passes;
-        sameValues = used-values reached entries held counts stood ∙ (claim-entered .values ∙ values-again (t .atoms) values levels (valued .0));
-        sameLevels = used-levels reached entries held counts claim-stood ∙ (claim-entered .levels ∙ levels-again (t .atoms) values levels (valued .1));
+        sameValues = used-values reached entries held counts stood ∙ (claim-entered .values ∙ values-again (t .atoms) 1 values levels (valued .0));
+        sameLevels = used-levels reached entries held counts claim-stood ∙ (claim-entered .levels ∙ told);
       }
 
   pub read-back : (book : Book) (after : Contents) → Reads (textOf t values levels) held book after → ReadBack t values levels book after

@@ -5,12 +5,12 @@ use mathlib.Core.Path.{_≡_, refl, sym, ap, subst, _∙_}
 use mathlib.Core.Logic.{_⊎_, inl, inr, ⊎-elim}
 use mathlib.Core.Bool.{Bool, true, false}
 use mathlib.Core.List.{List, [], _∷_, _++_, List·Memᴰ, List·Memᴰ·head, List·Memᴰ·tail, List·Memᴰ·not-nil, List·Memᴰ·cases-cons}
-use mathlib.Core.List.{Memᴰ·append-right}
+use mathlib.Core.List.{Memᴰ·append-right, List·Memᴰ·append-cases}
 use native.Mathlib.Nat.{le-of-suc-le-suc, not-suc-le-zero, eq-or-lt-of-le}
 use native.Mathlib.Numerals.{add-one}
 use native.Mathlib.Omega.{arith}
-use Rattle.wellfounded.specs.Lists.{all}
-use Rattle.wellfounded.proofs.Lists.{all-use}
+use Rattle.wellfounded.specs.Lists.{all, tabulate}
+use Rattle.wellfounded.proofs.Lists.{all-use, tabulate-member}
 use Rattle.tables.specs.declared.Found.{Found}
 use Rattle.tables.specs.declared.Found.the-variants.{At, Nothing}
 use Rattle.tables.specs.declared.Fault.{Fault}
@@ -135,6 +135,49 @@ pub nothing-leaves :
     found ≡ lowest (t .positions) (t .bad) → found ≡ Nothing → firstFault ts ≡ firstFault later
 nothing-leaves ts t later found left is none = left ∙ first-passes t later (sym is ∙ none)
 
+-- A test for each number below n, in turn: the first that finds its fault decides.
+turns-found :
+    (n : ℕ) (f : ℕ → Test) (k p : ℕ) → k < n → ((j : ℕ) → j < k → lowest (f j .positions) (f j .bad) ≡ Nothing) →
+    lowest (f k .positions) (f k .bad) ≡ At p → firstFault (tabulate n f) ≡ Refused (f k .fault) p
+unfolding tabulate
+turns-found zero f k p l none found = absurd (omega arith)
+turns-found (suc n) f zero p l none found = first-fails (f 0) (tabulate n (λ k. f (suc k))) p found
+turns-found (suc n) f (suc k) p l none found =
+    first-passes (f 0) (tabulate n (λ k. f (suc k))) (none 0 (omega arith))
+    ∙ turns-found n (λ k. f (suc k)) k p (omega arith) (λ j b. none (suc j) (omega arith)) found
+
+turns-pass :
+    (n : ℕ) (f : ℕ → Test) → ((j : ℕ) → j < n → lowest (f j .positions) (f j .bad) ≡ Nothing) → firstFault (tabulate n f) ≡ Accepted
+unfolding tabulate firstFault
+turns-pass zero f none = refl
+turns-pass (suc n) f none =
+    first-passes (f 0) (tabulate n (λ k. f (suc k))) (none 0 (omega arith))
+    ∙ turns-pass n (λ k. f (suc k)) (λ j b. none (suc j) (omega arith))
+
+-- Of a loop that makes these tests: none of the first k finds its fault.
+pub record Turned (f : ℕ → Test) (n k : ℕ) : Type 0 where
+  pub low : k ≤ n
+  pub none : (j : ℕ) → j < k → lowest (f j .positions) (f j .bad) ≡ Nothing
+
+module _ {f : ℕ → Test} {n : ℕ} where
+  pub turned-start : Turned f n 0
+  turned-start = record { low = omega arith; none = λ j b. absurd (omega arith) }
+
+  pub turned-turn : {k : ℕ} {found : Found} → k < n → found ≡ lowest (f k .positions) (f k .bad) → found ≡ Nothing → Turned f n k → Turned f n (k + 1)
+  turned-turn {k} l is nothing t = record { low = omega arith; none = λ j b. step j (eq-or-lt-of-le (le-of-suc-le-suc (rw add-one at b))) }
+    where
+      step : (j : ℕ) → (j ≡ k) ⊎ (j < k) → lowest (f j .positions) (f j .bad) ≡ Nothing
+      step j (inl e) = rw e (sym is ∙ nothing)
+      step j (inr b) = t .none j b
+
+  pub turned-stop :
+      {k p : ℕ} {found : Found} → k < n → found ≡ lowest (f k .positions) (f k .bad) → found ≡ At p → Turned f n k →
+      Refused (f k .fault) p ≡ firstFault (tabulate n f)
+  turned-stop {k} {p} l is at t = sym (turns-found n f k p l (t .none) (sym is ∙ at))
+
+  pub turned-end : {k : ℕ} → n ≤ k → Turned f n k → Accepted ≡ firstFault (tabulate n f)
+  turned-end l t = sym (turns-pass n f (λ j b. t .none j (omega arith)))
+
 -- A test that looks at one position.
 pub once-passes : (bad : ℕ → Bool) → bad 0 ≡ false → lowest 1 bad ≡ Nothing
 once-passes bad good = lowest-turn bad 0 (lowest-start bad) good
@@ -168,6 +211,17 @@ pub absent-more :
     {x : Test} {xs : List Test} → Absent x → ((t : Test) → List·Memᴰ t xs → Absent t) → (t : Test) → List·Memᴰ t (x ∷ xs) → Absent t
 absent-more {x} {xs} here there t m =
     ⊎-elim (λ (first : t ≡ x). subst Absent (sym first) here) (λ (rest : List·Memᴰ t xs). there t rest) (List·Memᴰ·cases-cons m)
+
+-- What holds of each test of two lists, and of a test for each number below n.
+module _ (P : Test → Type 0) where
+  pub each-both :
+      {xs ys : List Test} → ((t : Test) → List·Memᴰ t xs → P t) → ((t : Test) → List·Memᴰ t ys → P t) →
+      (t : Test) → List·Memᴰ t (xs ++ ys) → P t
+  each-both {xs} {ys} left right t m =
+      ⊎-elim (λ (x : List·Memᴰ t xs). left t x) (λ (y : List·Memᴰ t ys). right t y) (List·Memᴰ·append-cases xs m)
+
+  pub each-turn : (n : ℕ) (f : ℕ → Test) → ((k : ℕ) → k < n → P (f k)) → (t : Test) → List·Memᴰ t (tabulate n f) → P t
+  each-turn n f all t m = let at = tabulate-member n f m in subst P (sym (at .2)) (all (at .0) (at .1))
 
 -- Accepted exactly if no fault of the list occurs.
 pub accepted-absent : (ts : List Test) → firstFault ts ≡ Accepted → (t : Test) → List·Memᴰ t ts → Absent t

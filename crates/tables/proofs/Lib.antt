@@ -9,5 +9,6 @@ pub mod RefusalLaws
 pub mod RowFaults
 pub mod MarkLaws
 pub mod TotalLaws
+pub mod GroupLaws
 pub mod RowLaws
 pub mod Computes

@@ -17,7 +17,7 @@ use Rattle.wellfounded.proofs.Lists.{length-tabulate, getD-tabulate, getD-defau
 use Rattle.wellfounded.proofs.Literals.{true-test, held-at}
 use Rattle.wellfounded.proofs.Tests.{decided, both, or-right, or-none, and-left, and-right}
 use Rattle.tables.specs.Rows.{headsRule, isDeclared, definedBy}
-use Rattle.tables.specs.internal.Marks.{isMarked, markWhere, markHead, Copied, TellsDefined}
+use Rattle.tables.specs.internal.Marks.{isMarked, markWhere, markHead, Copied, Unmarked, Declares, TellsDefined}
 use Rattle.tables.specs.Values.{notHeld}
 
 pub mark-length : (passes : ℕ → Bool) (marks : List ℕ) → length (markWhere passes marks) ≡ length marks
@@ -50,6 +50,15 @@ fresh-marks n passes atom l = marked-where passes (replicate n 0) atom (rw lengt
   where
     none : (b : Bool) → (b || isMarked (replicate n 0) atom) ≡ b
     none b = rw (getD-replicate {A = ℕ} n atom 0 0 l) (or-false b)
+
+pub fresh-unmarked : (n : ℕ) → Unmarked (replicate n 0)
+unfolding isMarked
+fresh-unmarked n = record { none = λ atom. ne-eqb (getD (replicate n 0) atom 0) 1 (λ e. omega (arith, e, zeros n atom)) }
+  where
+    zeros : (m atom : ℕ) → getD {A = ℕ} (replicate m 0) atom 0 ≡ 0
+    zeros zero atom = refl
+    zeros (suc m) zero = refl
+    zeros (suc m) (suc atom) = zeros m atom
 
 -- Tests that agree make the same marks.
 pub mark-same : (p q : ℕ → Bool) (marks : List ℕ) → ((atom : ℕ) → p atom ≡ q atom) → markWhere p marks ≡ markWhere q marks
@@ -173,15 +182,29 @@ module _ (heads : ℕ → ℕ) (passes : ℕ → Bool) (before : List ℕ) (n : 
       Marked (λ row atom. eqb (heads row) atom && passes row) before (n + 1) marks
   row-again head e marked m = rw (← head-again marks (passes n) (heads n) (rw e at marked)) at (marked-look m)
 
--- With the heads marked beside marks that were copied, marks tell what rules and marks define.
+-- A look at the declared atoms puts the book's marks into an array without marks in group 0, and leaves it in every other.
+pub declared-copied :
+    {marks before now : List ℕ} (group : ℕ) → group ≡ 0 → Copied marks before now → length marks ≤ length before → Declares marks group before now
+unfolding isDeclared isMarked
+declared-copied {marks} {before} {now} group e c room =
+    record { long = c .long; tells = λ atom l. rw (e, c .same atom l) }
+
+pub declared-left :
+    {marks before : List ℕ} (group : ℕ) → (group ≡ 0 → ⊥) → Unmarked before → Declares marks group before before
+declared-left group other none = record { long = refl; tells = λ atom l. none .none atom ∙ sym (and-left _ _ (ne-eqb group 0 other)) }
+
+-- With the heads of a group marked beside the declared atoms, marks tell what the group defines.
 pub defined-marks :
-    {rules marks before copied now : List ℕ} → Copied marks before copied → now ≡ markWhere (headsRule rules) copied →
-    length marks ≤ length before → TellsDefined rules marks (length before) now
-unfolding definedBy isDeclared isMarked
-defined-marks {rules} {marks} {before} {copied} c is room =
+    {rules marks before declared now : List ℕ} (group : ℕ) → Declares marks group before declared →
+    now ≡ markWhere (headsRule rules group) declared → length marks ≤ length before → TellsDefined rules marks group (length before) now
+unfolding definedBy
+defined-marks {rules} {marks} {before} {declared} group d is room =
     record {
-      long = rw (is, mark-length) (c .long);
-      tells = λ atom l. rw is (marked-where (headsRule rules) copied atom (omega (arith, c .long)) ∙ ap (λ (mark : ℕ). headsRule rules atom || eqb mark 1) (c .same atom l));
+      long = rw (is, mark-length) (d .long);
+      tells = λ atom l.
+          rw is
+          (marked-where (headsRule rules group) declared atom (omega (arith, d .long))
+          ∙ ap (λ (b : Bool). headsRule rules group atom || b) (d .tells atom l));
     }
 
 -- The code's test of a value.

@@ -1,8 +1,8 @@
 -- How high the position of a verdict can be: no test of sound tables looks at more than 65,536 positions.
 -- Assumes nothing.
-use Prim.Native.Nat.{suc, _≤_}
+use Prim.Native.Nat.{ℕ, suc, _≤_}
 use mathlib.Core.Path.{_≡_, refl}
-use mathlib.Core.List.{List, [], _∷_, _++_, List·Memᴰ·head}
+use mathlib.Core.List.{List, [], _∷_, _++_, List·Memᴰ, List·Memᴰ·head, List·Memᴰ·tail}
 use native.Mathlib.Omega.{arith}
 use borrow.Author.Tests.{not-false}
 use Rattle.tables.specs.declared.Found.{Found}
@@ -12,7 +12,7 @@ use Rattle.tables.specs.Limits.{maxPosition}
 use Rattle.tables.specs.Faults.{positionOf, lowest, Test, refusedOr, firstFault, Absent}
 use Rattle.tables.specs.Rows.{ruleCount, clauseCount, definitionOf}
 use Rattle.tables.specs.Loads.{loadCount}
-use Rattle.tables.specs.Sound.{Tables, bookOf, tableTests, Slice, lentTests, sliceTest, markCountTest, markTest, Sizes}
+use Rattle.tables.specs.Sound.{Tables, groupOf, bookOf, tableTests, Slice, lentTests, sliceTest, markCountTest, markTest, Sizes}
 use Rattle.tables.proofs.Faults.{lowest-at, nothing-absent, accepted-absent}
 use Rattle.tables.proofs.SoundTables.{sizes-fault}
 
@@ -26,6 +26,17 @@ position-more x xs few later = step (lowest (x .positions) (x .bad)) refl
     step : (found : Found) → lowest (x .positions) (x .bad) ≡ found → positionOf (refusedOr (x .fault) found (firstFault xs)) ≤ maxPosition
     step (At p) e = omega (arith, lowest-at (x .bad) (x .positions) p e .0)
     step Nothing e = later (nothing-absent x e)
+
+-- Few positions in each of several tests.
+abbrev pub Few : Test → Type 0
+Few test = test .positions ≤ suc maxPosition
+
+pub position-each :
+    (xs ys : List Test) → ((x : Test) → List·Memᴰ x xs → Few x) → positionOf (firstFault ys) ≤ maxPosition →
+    positionOf (firstFault (xs ++ ys)) ≤ maxPosition
+position-each [] ys few later = later
+position-each (x ∷ xs) ys few later =
+    position-more x (xs ++ ys) (few x (List·Memᴰ·head refl)) (λ a. position-each xs ys (λ y m. few y (List·Memᴰ·tail m)) later)
 
 pub position-none : positionOf (firstFault []) ≤ maxPosition
 unfolding firstFault
@@ -54,9 +65,13 @@ module _ (t : Tables) where
     pub few-atoms : t .atoms ≤ suc maxPosition
     few-atoms = omega (arith, z .fewAtoms)
 
+    pub few-in-group : (group : ℕ) → groupOf t group .size ≤ suc maxPosition
+    unfolding groupOf definitionOf
+    few-in-group group = few-atoms
+
     pub few-in-book : bookOf t .size ≤ suc maxPosition
-    unfolding bookOf definitionOf
-    few-in-book = few-atoms
+    unfolding bookOf
+    few-in-book = few-in-group 0
 
   -- The tests of what is lent, before others whose position is small where the tables have the sizes that they may have.
   pub lent-position :

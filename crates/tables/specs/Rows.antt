@@ -1,10 +1,10 @@
--- Rows of the rule and clause tables, marks, and what they stand for. Row layouts are defined here and nowhere else.
-use Prim.Native.Nat.{ℕ, _+_, _*_, _/_}
-use mathlib.Core.Bool.{Bool, _||_}
-use mathlib.Core.List.{List}
+-- Rows of the rule and clause tables, groups of rules, marks, and what they stand for. Row layouts are defined here and nowhere else.
+use Prim.Native.Nat.{ℕ, suc, _+_, _*_, _/_}
+use mathlib.Core.Bool.{Bool, cond, _&&_, _||_}
+use mathlib.Core.List.{List, [], _∷_, map}
 use lib.Dec.{eqb}
 use lib.ListN.{length, getD}
-use Rattle.wellfounded.specs.Lists.{anyBelow, sumBelow, tabulate}
+use Rattle.wellfounded.specs.Lists.{anyBelow, sumBelow, highestBelow, joinBelow, tabulate}
 use Rattle.wellfounded.specs.Literals.{bodyAt}
 use Rattle.wellfounded.specs.Definitions.{Rule, Definition}
 
@@ -33,26 +33,45 @@ ruleAt rules literals row = record { head = ruleHead rules row; body = ruleBody 
 unfoldable pub rulesOf : List ℕ → List ℕ → List Rule
 rulesOf rules literals = tabulate (ruleCount rules) (ruleAt rules literals)
 
+-- A rule's group tells which of the book's definitions it belongs to. Rows have no number for it yet, so that every rule is of group 0.
+unfoldable pub ruleGroup : List ℕ → ℕ → ℕ
+ruleGroup rules row = 0
+
+-- Whether the rule of a row is one of a group's.
+unfoldable pub inGroup : List ℕ → ℕ → ℕ → Bool
+inGroup rules group row = eqb (ruleGroup rules row) group
+
+-- How many groups there are: one more than the highest, and so at least one. Groups without a rule in between count.
+unfoldable pub groupCount : List ℕ → ℕ
+groupCount rules = suc (highestBelow (ruleCount rules) (ruleGroup rules))
+
+-- The rows of a group and their rules, in the order of the table.
+unfoldable pub rowsOf : List ℕ → ℕ → List ℕ
+rowsOf rules group = joinBelow (ruleCount rules) (λ row. cond (inGroup rules group row) (row ∷ []) [])
+
+unfoldable pub groupRules : List ℕ → List ℕ → ℕ → List Rule
+groupRules rules literals group = map (ruleAt rules literals) (rowsOf rules group)
+
 -- The literals of all bodies, counted by rule: what rules share counts for each of them.
 unfoldable pub literalsByRule : List ℕ → ℕ
 literalsByRule rules = sumBelow (ruleCount rules) (ruleSize rules)
 
--- Whether some rule has the atom as its head.
-unfoldable pub headsRule : List ℕ → ℕ → Bool
-headsRule rules atom = anyBelow (ruleCount rules) (λ row. eqb (ruleHead rules row) atom)
+-- Whether some rule of a group has the atom as its head.
+unfoldable pub headsRule : List ℕ → ℕ → ℕ → Bool
+headsRule rules group atom = anyBelow (ruleCount rules) (λ row. eqb (ruleHead rules row) atom && inGroup rules group row)
 
 -- A book's marks have an entry for each atom, and 1 declares it defined.
 unfoldable pub isDeclared : List ℕ → ℕ → Bool
 isDeclared marks atom = eqb (getD marks atom 0) 1
 
--- An atom that heads some rule or is declared is defined, every other is open.
-unfoldable pub definedBy : List ℕ → List ℕ → ℕ → Bool
-definedBy rules marks atom = headsRule rules atom || isDeclared marks atom
+-- An atom that heads some rule of a group is defined there, and so is a declared one in group 0; every other is open there.
+unfoldable pub definedBy : List ℕ → List ℕ → ℕ → ℕ → Bool
+definedBy rules marks group atom = headsRule rules group atom || eqb group 0 && isDeclared marks atom
 
--- The definition that rule rows and marks make over so many atoms.
-unfoldable pub definitionOf : ℕ → List ℕ → List ℕ → List ℕ → Definition
-definitionOf atoms rules literals marks =
-    record { size = atoms; defined = definedBy rules marks; rules = rulesOf rules literals }
+-- The definition that the rule rows of a group make, with the marks, over so many atoms.
+unfoldable pub definitionOf : ℕ → List ℕ → List ℕ → List ℕ → ℕ → Definition
+definitionOf atoms rules literals marks group =
+    record { size = atoms; defined = definedBy rules marks group; rules = groupRules rules literals group }
 
 -- A clause row is two numbers: start, count, over the same literal table.
 abbrev pub clauseWidth : ℕ

@@ -6,13 +6,13 @@ use mathlib.Core.List.{List, [], _∷_, _++_, List·Memᴰ}
 use lib.Dec.{leb, ltb, eqb}
 use lib.IntN.{ℤ, pos, natAbs}
 use lib.Signed.{nonNeg, _≤ℤ_}
-use lib.ListN.{length, getD}
+use lib.ListN.{length, getD, take, drop}
 use Rattle.wellfounded.specs.Lists.{all}
 use Rattle.wellfounded.specs.Definitions.{Definition}
 use Rattle.tables.specs.declared.Fault.the-variants.{TableSizes, RuleRow, ClauseRow, LoadRow, Literal, LoadTerm, SliceLength, Mark}
 use Rattle.tables.specs.Limits.{maxAtoms, maxRuleRows, maxClauseRows, maxLiterals, maxLoadRows, maxTerms, maxMinutes, maxBound}
 use Rattle.tables.specs.Faults.{Test, Absent}
-use Rattle.tables.specs.Rows.{ruleWidth, ruleCount, ruleHead, ruleStart, ruleSize, definitionOf}
+use Rattle.tables.specs.Rows.{ruleWidth, ruleCount, ruleHead, ruleStart, ruleSize, groupCount, definitionOf}
 use Rattle.tables.specs.Rows.{clauseWidth, clauseCount, clauseStart, clauseSize}
 use Rattle.tables.specs.Loads.{loadWidth, loadCount, loadEntry, loadLow, loadHigh, loadStart, loadSize}
 use Rattle.tables.specs.Values.{notHeld}
@@ -41,9 +41,13 @@ lent atoms rules literals clauses loads loadLiterals minutes marks =
       marks = marks;
     }
 
--- The definition that a book's rules and marks make.
+-- The definition that a group of a book's rules makes, with the marks.
+unfoldable pub groupOf : Tables → ℕ → Definition
+groupOf t group = definitionOf (t .atoms) (t .rules) (t .literals) (t .marks) group
+
+-- The definition of group 0: a book that has no other group is this one.
 unfoldable pub bookOf : Tables → Definition
-bookOf t = definitionOf (t .atoms) (t .rules) (t .literals) (t .marks)
+bookOf t = groupOf t 0
 
 -- 11 is absent: N and every table are within their limits, tables of rows have whole rows, and there are as many minutes as load literals.
 -- The arguments are N and the tables' lengths.
@@ -102,9 +106,14 @@ sized entries due = record { entries = entries; due = due }
 unfoldable pub isSized : Slice → Bool
 isSized s = eqb (s .entries) (s .due)
 
--- The slices of a claim, lent beside the tables: a value and a level for each atom.
+-- A claim has a level for each atom in each group: those of group 0 first, and in a group one for each atom in turn.
+unfoldable pub groupLevels : ℕ → List ℕ → ℕ → List ℕ
+groupLevels atoms levels group = take atoms (drop (group * atoms) levels)
+
+-- The slices of a claim, lent beside the tables: a value for each atom, and a level for each atom in each group.
 abbrev pub claimSlices : Tables → List ℕ → List ℕ → List Slice
-claimSlices t values levels = sized (length values) (t .atoms) ∷ sized (length levels) (t .atoms) ∷ []
+claimSlices t values levels =
+    sized (length values) (t .atoms) ∷ sized (length levels) (groupCount (t .rules) * t .atoms) ∷ []
 
 -- 17: another lent slice that has not the length that it must have.
 unfoldable pub sliceTest : List Slice → Test

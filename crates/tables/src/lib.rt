@@ -3,6 +3,7 @@ ghost use mathlib.Core.Path.{_≡_};
 ghost use Rattle.tables.specs.Faults.{faultNumber, numberOf, positionOf};
 
 pub mod entries;
+pub mod groups;
 pub mod load_rows;
 pub mod marks;
 pub mod refusals;

@@ -4,8 +4,9 @@ ghost use Prim.Native.Nat.{ℕ, _≤_, _<_};
 ghost use lib.ListN.{length};
 ghost use Rattle.wellfounded.specs.Lists.{count};
 ghost use Rattle.tables.specs.Rows.{ruleCount, ruleHead, headsRule};
-ghost use Rattle.tables.specs.internal.Marks.{isMarked, markWhere, Copied, TellsDefined};
+ghost use Rattle.tables.specs.internal.Marks.{isMarked, markWhere, Copied, Unmarked, Declares, TellsDefined};
 use super::rows::rule_count;
+use super::rows::rule_group;
 use super::rows::rule_head;
 
 // Copies marks, or values, to the front of others.
@@ -20,28 +21,43 @@ pub fn copy_marks(marks: &[u8], defined: &mut [u8])
     }
 }
 
-// Marks the head of every rule.
-fn mark_heads(rules: &[u16], marks: &mut [u8])
+// Marks the atoms that a book declares defined, which it does in group 0 alone, in an array without marks.
+fn mark_declared(group: usize, marks: &[u8], defined: &mut [u8])
+    requires { ⌜ length (now marks) ≤ length (now defined) ⌝ }
+    requires { ⌜ Unmarked (now defined) ⌝ }
+    ensures { λ r. ⌜ Declares (now (marks .entry)) group (now (defined .entry)) (now (defined .exit)) ⌝ }
+{
+    if group == 0 {
+        copy_marks(marks, defined);
+    }
+}
+
+// Marks the head of every rule of a group.
+fn mark_heads(rules: &[u16], group: usize, marks: &mut [u8])
     requires { ⌜ ((row : ℕ) → row < ruleCount (now rules) → ruleHead (now rules) row < length (now marks)) ⌝ }
-    ensures { λ r. ⌜ now (marks .exit) ≡ markWhere (headsRule (now (rules .entry))) (now (marks .entry)) ⌝ }
+    ensures { λ r. ⌜ now (marks .exit) ≡ markWhere (headsRule (now (rules .entry)) group) (now (marks .entry)) ⌝ }
 {
     let rows = rule_count(rules);
     let mut row = 0;
     while row < rows {
         let head = rule_head(rules, row);
-        marks[head] = 1;
+        if rule_group(rules, row) == group {
+            marks[head] = 1;
+        }
         row += 1;
     }
 }
 
-// Marks the defined atoms of a book: those that its marks declare, and the head of every rule.
-pub fn mark_defined(rules: &[u16], marks: &[u8], defined: &mut [u8])
+// Marks the atoms that a group defines in an array without marks: the head of every rule of the group, and in group 0 the atoms that the book's
+// marks declare.
+pub fn mark_defined(rules: &[u16], group: usize, marks: &[u8], defined: &mut [u8])
     requires { ⌜ ((row : ℕ) → row < ruleCount (now rules) → ruleHead (now rules) row < length (now defined)) ⌝ }
     requires { ⌜ length (now marks) ≤ length (now defined) ⌝ }
-    ensures { λ r. ⌜ TellsDefined (now (rules .entry)) (now (marks .entry)) (length (now (defined .entry))) (now (defined .exit)) ⌝ }
+    requires { ⌜ Unmarked (now defined) ⌝ }
+    ensures { λ r. ⌜ TellsDefined (now (rules .entry)) (now (marks .entry)) group (length (now (defined .entry))) (now (defined .exit)) ⌝ }
 {
-    copy_marks(marks, defined);
-    mark_heads(rules, defined);
+    mark_declared(group, marks, defined);
+    mark_heads(rules, group, defined);
 }
 
 // How many of the first `size` atoms are marked.

@@ -2,7 +2,7 @@
 ghost use mathlib.Core.Path.{_≡_};
 ghost use Prim.Native.Nat.{_<_};
 ghost use lib.ListN.{length, getD};
-ghost use Rattle.tables.specs.Rows.{ruleCount, ruleHead, ruleStart, ruleSize, clauseCount, clauseStart, clauseSize};
+ghost use Rattle.tables.specs.Rows.{ruleCount, ruleHead, ruleStart, ruleSize, ruleGroup, clauseCount, clauseStart, clauseSize};
 ghost use Rattle.tables.specs.internal.Fields.{Field};
 
 // Entries in a row.
@@ -47,6 +47,14 @@ pub fn rule_size(rules: &[u16], row: usize) -> usize
     ensures { λ r. ⌜ Field 65536 (ruleSize (now (rules .entry)) row) r ⌝ }
 {
     entry(rules, row * RULE_WIDTH + 2)
+}
+
+// The group of a rule: 0, as rows have no number for it yet.
+pub fn rule_group(rules: &[u16], row: usize) -> usize
+    requires { ⌜ row < ruleCount (now rules) ⌝ }
+    ensures { λ r. ⌜ Field 65536 (ruleGroup (now (rules .entry)) row) r ⌝ }
+{
+    0
 }
 
 // How many clauses a table has.

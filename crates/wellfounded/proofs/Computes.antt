@@ -1,6 +1,6 @@
 -- The definitions of this crate, and of those below it, that a sample computes through: `unfolding computes` opens them all.
 -- Assumes nothing.
-use Rattle.wellfounded.specs.Lists.{all, any, tabulate, iterate, allBelow, anyBelow, count, sumBelow, joinBelow, occurs, least, same}
+use Rattle.wellfounded.specs.Lists.{all, any, tabulate, iterate, allBelow, anyBelow, count, sumBelow, highestBelow, joinBelow, occurs, least, same}
 use Rattle.wellfounded.specs.Literals.{isFalse, isTrue, isHeld, valueAt, atomOf, isPositive, isNegated, literalTrue, literalFalse}
 use Rattle.wellfounded.specs.Literals.{bodyTrue, bodyAt}
 use Rattle.wellfounded.specs.Definitions.{isDefined, isOpen, definedCount, someRule, everyRule, fires}
@@ -9,7 +9,7 @@ use Rattle.wellfounded.specs.Stages.{stageZero, nextValue, next, stage, 
 use Rattle.wellfounded.specs.Levels.{levelAt, supports, blocks, levelInRange, isSupported, isBlocked, obeysAt, accepts}
 
 unfoldable opens-lists : Unit {0}
-unfolding all any tabulate iterate allBelow anyBelow count sumBelow joinBelow occurs least same
+unfolding all any tabulate iterate allBelow anyBelow count sumBelow highestBelow joinBelow occurs least same
 opens-lists = tt
 
 unfoldable opens-literals : Unit {0}

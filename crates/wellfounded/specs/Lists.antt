@@ -2,7 +2,7 @@
 use Prim.Native.Nat.{ℕ, zero, suc, _+_}
 use mathlib.Core.Bool.{Bool, true, false, cond, _&&_, _||_}
 use mathlib.Core.List.{List, [], _∷_, _++_}
-use lib.Dec.{eqb}
+use lib.Dec.{eqb, ltb}
 
 module _ {A : Type 0} where
   -- Every element passes the test.
@@ -44,6 +44,11 @@ count (suc n) p = cond (p n) 1 0 + count n p
 unfoldable pub sumBelow : ℕ → (ℕ → ℕ) → ℕ
 sumBelow zero f = 0
 sumBelow (suc n) f = sumBelow n f + f n
+
+-- The highest of f 0, f 1, .. f (n - 1), or 0.
+unfoldable pub highestBelow : ℕ → (ℕ → ℕ) → ℕ
+highestBelow zero f = 0
+highestBelow (suc n) f = cond (ltb (highestBelow n f) (f n)) (f n) (highestBelow n f)
 
 -- f 0, f 1, .. f (n - 1), one after the other.
 unfoldable pub joinBelow : ℕ → (ℕ → List ℕ) → List ℕ

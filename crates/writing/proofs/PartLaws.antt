@@ -1,9 +1,11 @@
 -- The parts of a line, and lines, joined one after the other; and a literal, a term, a pair and a mark put by their bytes.
 -- Assumes nothing.
-use Prim.Native.Nat.{ℕ, zero, suc, _+_, _/_, _%_, _≤_}
+use Prim.Native.Nat.{ℕ, zero, suc, _+_, _*_, _/_, _%_, _≤_, _<_}
 use mathlib.Core.Path.{_≡_, refl, sym, ap, _∙_}
 use mathlib.Core.Bool.{Bool, true, false, cond}
 use mathlib.Core.List.{List, [], _∷_, _++_, map, append-assoc, append-nil}
+use native.Mathlib.Nat.{suc-mul, mul-le-mul-right}
+use native.Mathlib.Numerals.{add-one}
 use native.Mathlib.Omega.{arith}
 use lib.IntN.{ℤ, pos, negsuc, natAbs}
 use lib.ListN.{length, getD, length-append}
@@ -21,7 +23,7 @@ use Rattle.format.specs.Forms.{decimal, signed, literalBytes, termBytes, pairBy
 use Rattle.printing.specs.internal.Putting.{Puts, maxPrinted}
 use Rattle.printing.proofs.PutLaws.{puts-then, puts-behind}
 use Rattle.writing.specs.BookForms.{markedAtom, markedAtoms, definedForms, pairsOf, literalText, termText, claimedPair}
-use Rattle.writing.specs.internal.Parts.{termPart, pairPart, markPart, lineOf}
+use Rattle.writing.specs.internal.Parts.{termPart, levelPart, pairPart, markPart, lineOf}
 
 -- What ends a line of parts: the closing bracket and the byte after it.
 abbrev pub lineClose : List ℕ
@@ -92,10 +94,10 @@ text-append (f ∷ fs) gs =
 
 -- The claim's line, by its parts.
 pub claim-line :
-    (n : ℕ) (values levels : List ℕ) →
-    lineOf (claimForm (pairsOf n values levels)) ≡ claimWord ++ (joinBelow n (pairPart values levels) ++ lineClose)
+    (n groups : ℕ) (values levels : List ℕ) →
+    lineOf (claimForm (pairsOf n groups values levels)) ≡ claimWord ++ (joinBelow n (pairPart n groups values levels) ++ lineClose)
 unfolding lineOf render pairsOf pairPart
-claim-line n values levels = ap (λ (l : List ℕ). claimWord ++ l) (parts-line pairBytes n (claimedPair values levels))
+claim-line n groups values levels = ap (λ (l : List ℕ). claimWord ++ l) (parts-line pairBytes n (claimedPair n groups values levels))
 
 -- ── The marked atoms ──
 
@@ -233,22 +235,41 @@ module _ (loadLiterals : List ℕ) (minutes : List ℤ) (place : ℕ) where
   puts-term p q u w =
       puts-behind (space ∷ opening ∷ []) (signed (getD minutes place (pos 0))) (puts-then p q) (puts-behind (space ∷ []) _ u w)
 
--- `(V K)` behind a space.
-module _ (values levels : List ℕ) (atom : ℕ) where
+-- The place of an atom's level in a group is among the levels, and one group on lies as many places further as there are atoms.
+module _ (atoms groups group : ℕ) where
+  pub group-inside : group < groups → group * atoms + atoms ≤ groups * atoms
+  group-inside l = omega (arith, suc-mul group atoms, mul-le-mul-right {m = suc group} {n = groups} atoms (omega arith))
+
+  pub group-next : (atom : ℕ) → (group + 1) * atoms + atom ≡ group * atoms + atom + atoms
+  group-next atom = rw (add-one group, suc-mul group atoms) (omega arith)
+
+pub level-here :
+    (atoms : ℕ) (levels : List ℕ) (atom group : ℕ) {place : ℕ} → place ≡ group * atoms + atom →
+    space ∷ decimal (getD levels place 0) ≡ levelPart atoms levels atom group
+unfolding levelPart
+level-here atoms levels atom group e = rw e
+
+-- `(V K ..)` behind a space.
+module _ (atoms groups : ℕ) (values levels : List ℕ) (atom : ℕ) where
+  pair-parts :
+      pairPart atoms groups values levels atom
+      ≡ space ∷ opening ∷ (decimal (getD values atom 0) ++ (joinBelow groups (levelPart atoms levels atom) ++ (closing ∷ [])))
+  unfolding pairPart pairBytes levelPart
+  pair-parts =
+      ap (λ (l : List ℕ). space ∷ opening ∷ (decimal (getD values atom 0) ++ l))
+      (parts-joined decimal groups (λ group. getD levels (group * atoms + atom) 0))
+
   pub pair-length :
-      length (pairPart values levels atom) ≡ 4 + (length (decimal (getD values atom 0)) + length (decimal (getD levels atom 0)))
-  unfolding pairPart pairBytes
-  pair-length = simp length-append (omega arith)
+      length (pairPart atoms groups values levels atom)
+      ≡ 3 + (length (decimal (getD values atom 0)) + length (joinBelow groups (levelPart atoms levels atom)))
+  pair-length = ap length pair-parts ∙ simp length-append (omega arith)
 
   pub puts-pair :
-      {l m r s t v : List ℕ} {at mid next last further end : ℕ} → Puts l at (space ∷ opening ∷ []) mid m →
-      Puts m mid (decimal (getD values atom 0)) next r → Puts r next (space ∷ []) last s →
-      Puts s last (decimal (getD levels atom 0)) further t → Puts t further (closing ∷ []) end v →
-      Puts l at (pairPart values levels atom) end v
-  unfolding pairPart pairBytes
-  puts-pair p q u w x =
-      puts-behind (space ∷ opening ∷ []) (decimal (getD values atom 0)) (puts-then p q)
-      (puts-behind (space ∷ []) (decimal (getD levels atom 0)) (puts-then u w) x)
+      {l m r s t : List ℕ} {at mid next last end : ℕ} → Puts l at (space ∷ opening ∷ []) mid m →
+      Puts m mid (decimal (getD values atom 0)) next r → Puts r next (joinBelow groups (levelPart atoms levels atom)) last s →
+      Puts s last (closing ∷ []) end t → Puts l at (pairPart atoms groups values levels atom) end t
+  puts-pair p q u w =
+      rw pair-parts (puts-behind (space ∷ opening ∷ []) (decimal (getD values atom 0)) (puts-then p q) (puts-then u w))
 
 -- A marked atom is put behind a space, and of another nothing is.
 module _ (marks : List ℕ) (atom : ℕ) where

@@ -38,9 +38,9 @@ unfolding lineOf render
 atoms-parts n = record { is = simp append-assoc }
 
 pub claim-parts :
-    (n : ℕ) (values levels : List ℕ) →
-    Parted (lineOf (claimForm (pairsOf n values levels))) claimWord (joinBelow n (pairPart values levels)) lineClose
-claim-parts n values levels = record { is = claim-line n values levels }
+    (n groups : ℕ) (values levels : List ℕ) →
+    Parted (lineOf (claimForm (pairsOf n groups values levels))) claimWord (joinBelow n (pairPart n groups values levels)) lineClose
+claim-parts n groups values levels = record { is = claim-line n groups values levels }
 
 pub defined-parts :
     (n : ℕ) (marks : List ℕ) → (count n (isMarked marks) ≡ 0 → ⊥) →
@@ -67,7 +67,7 @@ abbrev pub bookRows : Tables → List ℕ
 bookRows t = rowsText (t .rules) (t .literals) (t .clauses) (t .loads) (t .loadLiterals) (t .minutes)
 
 abbrev pub claimLine : Tables → List ℕ → List ℕ → List ℕ
-claimLine t values levels = lineOf (claimForm (pairsOf (t .atoms) values levels))
+claimLine t values levels = lineOf (claimForm (pairsOf (t .atoms) 1 values levels))
 
 module _ (t : Tables) (values levels : List ℕ) where
   text-parts : Parted (textOf t values levels) (atomsLine t) (definedText (t .atoms) t) (bookRows t ++ claimLine t values levels)

@@ -1,5 +1,5 @@
 -- The forms that tables and a claim are written as. Their text is the rendering of these forms.
-use Prim.Native.Nat.{ℕ}
+use Prim.Native.Nat.{ℕ, _+_, _*_}
 use mathlib.Core.Bool.{cond}
 use mathlib.Core.List.{List, [], _∷_, _++_, map}
 use lib.ListN.{getD}
@@ -41,21 +41,22 @@ unfoldable pub definedForms : List ℕ → List Form
 definedForms [] = []
 definedForms (atom ∷ others) = definedForm atom others ∷ []
 
--- The value and the level that are claimed for an atom, whatever they are; and those of each atom in turn.
-abbrev pub claimedPair : List ℕ → List ℕ → ℕ → PairText
-claimedPair values levels atom = record { value = getD values atom 0; level = getD levels atom 0 }
+-- The value that is claimed for an atom and its level in each group, whatever they are; and those of each atom in turn. Levels stand group by group.
+abbrev pub claimedPair : ℕ → ℕ → List ℕ → List ℕ → ℕ → PairText
+claimedPair atoms groups values levels atom =
+    record { value = getD values atom 0; levels = tabulate groups (λ group. getD levels (group * atoms + atom) 0) }
 
-unfoldable pub pairsOf : ℕ → List ℕ → List ℕ → List PairText
-pairsOf atoms values levels = tabulate atoms (claimedPair values levels)
+unfoldable pub pairsOf : ℕ → ℕ → List ℕ → List ℕ → List PairText
+pairsOf atoms groups values levels = tabulate atoms (claimedPair atoms groups values levels)
 
--- The forms of tables and a claim: the atoms, the marked ones, rules, clauses and load lines by row, and the claim.
+-- The forms of tables and a claim: the atoms, the marked ones, rules, clauses and load lines by row, and the claim, with one group of levels.
 unfoldable pub bookForms : Tables → List ℕ → List ℕ → List Form
 bookForms t values levels =
     atomsForm (t .atoms)
     ∷ (definedForms (markedAtoms (t .atoms) (t .marks))
     ++ (map ruleFormOf (rulesOf (t .rules) (t .literals))
     ++ (map clauseFormOf (clausesOf (t .clauses) (t .literals))
-    ++ (map loadFormOf (loadsOf (t .loads) (t .loadLiterals) (t .minutes)) ++ (claimForm (pairsOf (t .atoms) values levels) ∷ [])))))
+    ++ (map loadFormOf (loadsOf (t .loads) (t .loadLiterals) (t .minutes)) ++ (claimForm (pairsOf (t .atoms) 1 values levels) ∷ [])))))
 
 -- The text of tables and a claim.
 unfoldable pub textOf : Tables → List ℕ → List ℕ → List ℕ

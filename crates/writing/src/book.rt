@@ -1,6 +1,6 @@
 // The text of a book and a claim, put at the front of a buffer.
 ghost use mathlib.Core.Path.{_≡_};
-ghost use Prim.Native.Nat.{_+_, _≤_};
+ghost use Prim.Native.Nat.{_+_, _*_, _≤_};
 ghost use lib.ListN.{length};
 ghost use Rattle.format.specs.Forms.{atomsForm, claimForm, renderAll};
 ghost use Rattle.tables.specs.Limits.{maxAtoms};
@@ -44,14 +44,14 @@ fn put_defined(text: &mut [u8], at: usize, marks: &[u8]) -> usize
 }
 
 // Puts the line of the claim.
-fn put_claim(text: &mut [u8], at: usize, values: &[u8], levels: &[u16]) -> usize
-    requires { ⌜ length (now levels) ≡ length (now values) ⌝ }
-    requires { ⌜ at + length (lineOf (claimForm (pairsOf (length (now values)) (now values) (now levels)))) ≤ length (now text) ⌝ }
+fn put_claim(text: &mut [u8], at: usize, groups: usize, values: &[u8], levels: &[u16]) -> usize
+    requires { ⌜ length (now levels) ≡ groups * length (now values) ⌝ }
+    requires { ⌜ at + length (lineOf (claimForm (pairsOf (length (now values)) groups (now values) (now levels)))) ≤ length (now text) ⌝ }
     ensures { λ r. ⌜ Puts (now (text .entry)) at
-        (lineOf (claimForm (pairsOf (length (now (values .entry))) (now (values .entry)) (now (levels .entry))))) r (now (text .exit)) ⌝ }
+        (lineOf (claimForm (pairsOf (length (now (values .entry))) groups (now (values .entry)) (now (levels .entry))))) r (now (text .exit)) ⌝ }
 {
     let begun = put(text, at, b"(claim");
-    let paired = put_pairs(text, begun, values, levels);
+    let paired = put_pairs(text, begun, groups, values, levels);
     put(text, paired, b")\n")
 }
 
@@ -115,5 +115,5 @@ pub fn put_book(
         load_literals,
         minutes,
     );
-    put_claim(text, listed, values, levels)
+    put_claim(text, listed, 1, values, levels)
 }

@@ -8,13 +8,13 @@ ghost use Rattle.tables.specs.Limits.{maxAtoms};
 ghost use Rattle.tables.specs.Rows.{ruleCount, rulesOf, clauseCount, clausesOf};
 ghost use Rattle.tables.specs.Loads.{loadCount, loadsOf};
 ghost use Rattle.tables.specs.Sound.{lent};
-ghost use Rattle.format.specs.Forms.{atomsForm, claimForm, space, literalBytes, renderAll};
+ghost use Rattle.format.specs.Forms.{atomsForm, claimForm, space, decimal, literalBytes, renderAll};
 ghost use Rattle.printing.specs.internal.Putting.{maxPrinted};
 ghost use Rattle.writing.specs.BookForms.{literalText, ruleFormOf, clauseFormOf, loadFormOf, markedAtoms, definedForms, pairsOf, textOf};
-ghost use Rattle.writing.specs.internal.Parts.{literalPart, termPart, pairPart, markPart, lineOf, bodyBytes, termsBytes, rowsText};
+ghost use Rattle.writing.specs.internal.Parts.{literalPart, termPart, levelPart, pairPart, markPart, lineOf, bodyBytes, termsBytes, rowsText};
 ghost use Rattle.writing.specs.internal.Parts.{ruleLine, clauseLine, loadLine};
 ghost use Rattle.writing.specs.internal.Lent.{RulesLie, ClausesLie, LoadsLie, Puttable};
-ghost use Rattle.writing.specs.internal.Counting.{Counts, Short, maxEntries, maxLine, maxLines};
+ghost use Rattle.writing.specs.internal.Counting.{Counts, Short, maxEntries, maxGroups, maxLine, maxLines};
 use printing::signed_width;
 use printing::width;
 use tables::load_rows::load_count;
@@ -198,24 +198,47 @@ fn rows_length(
     ruled + claused + loads_length(loads, load_literals, minutes)
 }
 
-// The pair of an atom: `(V K)` and the space before it.
-fn pair_length(values: &[u8], levels: &[u16], atom: usize) -> usize
-    requires { ⌜ (atom < length (now values)) × (atom < length (now levels)) ⌝ }
-    ensures { λ r. ⌜ Counts (pairPart (now (values .entry)) (now (levels .entry)) atom) 18 r ⌝ }
+// A level and the space before it.
+fn level_length(level: u16) -> usize
+    ensures { λ r. ⌜ Counts (space ∷ decimal level) 8 r ⌝ }
 {
-    4 + width(values[atom] as usize) + width(levels[atom] as usize)
+    1 + width(level as usize)
+}
+
+// The levels of an atom, one for each group.
+fn levels_length(groups: usize, atoms: usize, levels: &[u16], atom: usize) -> usize
+    requires { ⌜ (atom < atoms) × (length (now levels) ≡ groups * atoms) × (groups ≤ maxGroups) ⌝ }
+    ensures { λ r. ⌜ Counts (joinBelow groups (levelPart atoms (now (levels .entry)) atom)) (8 * groups) r ⌝ }
+{
+    let mut total = 0;
+    let mut group = 0;
+    let mut place = atom;
+    while group < groups {
+        total += level_length(levels[place]);
+        group += 1;
+        place += atoms;
+    }
+    total
+}
+
+// The pair of an atom: `(V K ..)` and the space before it.
+fn pair_length(groups: usize, values: &[u8], levels: &[u16], atom: usize) -> usize
+    requires { ⌜ (atom < length (now values)) × (length (now levels) ≡ groups * length (now values)) × (groups ≤ maxGroups) ⌝ }
+    ensures { λ r. ⌜ Counts (pairPart (length (now (values .entry))) groups (now (values .entry)) (now (levels .entry)) atom) (10 + 8 * maxGroups) r ⌝ }
+{
+    3 + width(values[atom] as usize) + levels_length(groups, values.len(), levels, atom)
 }
 
 // The line of the claim.
-fn claim_length(values: &[u8], levels: &[u16]) -> usize
-    requires { ⌜ (length (now levels) ≡ length (now values)) × (length (now values) ≤ maxAtoms) ⌝ }
+fn claim_length(groups: usize, values: &[u8], levels: &[u16]) -> usize
+    requires { ⌜ (length (now levels) ≡ groups * length (now values)) × (length (now values) ≤ maxAtoms) × (groups ≤ maxGroups) ⌝ }
     ensures { λ r. ⌜ Counts
-        (lineOf (claimForm (pairsOf (length (now (values .entry))) (now (values .entry)) (now (levels .entry))))) maxLine r ⌝ }
+        (lineOf (claimForm (pairsOf (length (now (values .entry))) groups (now (values .entry)) (now (levels .entry))))) maxLine r ⌝ }
 {
     let mut total = 0;
     let mut atom = 0;
     while atom < values.len() {
-        total += pair_length(values, levels, atom);
+        total += pair_length(groups, values, levels, atom);
         atom += 1;
     }
     total + 8
@@ -278,5 +301,5 @@ pub fn book_length(
     let sized = 9 + width(values.len());
     let marked = defined_length(marks);
     let listed = rows_length(rules, literals, clauses, loads, load_literals, minutes);
-    sized + marked + listed + claim_length(values, levels)
+    sized + marked + listed + claim_length(1, values, levels)
 }

@@ -1,14 +1,14 @@
 // The parts of a line, each after its space. Each function puts its bytes at an offset where there is room for them, and answers the offset after them.
 ghost use mathlib.Core.Path.{_≡_};
 ghost use mathlib.Core.List.{_∷_};
-ghost use Prim.Native.Nat.{_+_, _≤_, _<_};
+ghost use Prim.Native.Nat.{_+_, _*_, _≤_, _<_};
 ghost use lib.ListN.{length};
 ghost use Rattle.wellfounded.specs.Lists.{joinBelow};
-ghost use Rattle.format.specs.Forms.{space, literalBytes};
+ghost use Rattle.format.specs.Forms.{space, decimal, literalBytes};
 ghost use Rattle.tables.specs.Limits.{maxAtoms};
 ghost use Rattle.printing.specs.internal.Putting.{Puts, maxPrinted};
 ghost use Rattle.writing.specs.BookForms.{literalText};
-ghost use Rattle.writing.specs.internal.Parts.{literalPart, termPart, pairPart, markPart};
+ghost use Rattle.writing.specs.internal.Parts.{literalPart, termPart, levelPart, pairPart, markPart};
 use printing::put;
 use printing::put_decimal;
 use printing::put_signed;
@@ -82,30 +82,71 @@ pub fn put_terms(
     next
 }
 
-// Puts the pair of an atom: `(V K)`.
-fn put_pair(text: &mut [u8], at: usize, values: &[u8], levels: &[u16], atom: usize) -> usize
-    requires { ⌜ (atom < length (now values)) × (atom < length (now levels)) ⌝ }
-    requires { ⌜ at + length (pairPart (now values) (now levels) atom) ≤ length (now text) ⌝ }
-    ensures { λ r. ⌜ Puts (now (text .entry)) at (pairPart (now (values .entry)) (now (levels .entry)) atom) r (now (text .exit)) ⌝ }
+// Puts a space and a level.
+fn put_level(text: &mut [u8], at: usize, level: u16) -> usize
+    requires { ⌜ at + length (decimal level) < length (now text) ⌝ }
+    ensures { λ r. ⌜ Puts (now (text .entry)) at (space ∷ decimal level) r (now (text .exit)) ⌝ }
+{
+    let begun = put(text, at, b" ");
+    put_decimal(text, begun, level as usize)
+}
+
+// Puts the levels of an atom, one for each group.
+fn put_levels(
+    text: &mut [u8],
+    at: usize,
+    groups: usize,
+    atoms: usize,
+    levels: &[u16],
+    atom: usize,
+) -> usize
+    requires { ⌜ (atom < atoms) × (length (now levels) ≡ groups * atoms) ⌝ }
+    requires { ⌜ at + length (joinBelow groups (levelPart atoms (now levels) atom)) ≤ length (now text) ⌝ }
+    ensures { λ r. ⌜ Puts (now (text .entry)) at (joinBelow groups (levelPart atoms (now (levels .entry)) atom)) r (now (text .exit)) ⌝ }
+{
+    let mut next = at;
+    let mut group = 0;
+    let mut place = atom;
+    while group < groups {
+        next = put_level(text, next, levels[place]);
+        group += 1;
+        place += atoms;
+    }
+    next
+}
+
+// Puts the pair of an atom: `(V K ..)`.
+fn put_pair(
+    text: &mut [u8],
+    at: usize,
+    groups: usize,
+    values: &[u8],
+    levels: &[u16],
+    atom: usize,
+) -> usize
+    requires { ⌜ (atom < length (now values)) × (length (now levels) ≡ groups * length (now values)) ⌝ }
+    requires { ⌜ at + length (pairPart (length (now values)) groups (now values) (now levels) atom) ≤ length (now text) ⌝ }
+    ensures { λ r. ⌜ Puts (now (text .entry)) at
+        (pairPart (length (now (values .entry))) groups (now (values .entry)) (now (levels .entry)) atom) r (now (text .exit)) ⌝ }
 {
     let opened = put(text, at, b" (");
     let valued = put_decimal(text, opened, values[atom] as usize);
-    let parted = put(text, valued, b" ");
-    let levelled = put_decimal(text, parted, levels[atom] as usize);
+    let levelled = put_levels(text, valued, groups, values.len(), levels, atom);
     put(text, levelled, b")")
 }
 
 // Puts the pairs of all atoms.
-pub fn put_pairs(text: &mut [u8], at: usize, values: &[u8], levels: &[u16]) -> usize
-    requires { ⌜ length (now levels) ≡ length (now values) ⌝ }
-    requires { ⌜ at + length (joinBelow (length (now values)) (pairPart (now values) (now levels))) ≤ length (now text) ⌝ }
+pub fn put_pairs(text: &mut [u8], at: usize, groups: usize, values: &[u8], levels: &[u16]) -> usize
+    requires { ⌜ length (now levels) ≡ groups * length (now values) ⌝ }
+    requires { ⌜ at + length (joinBelow (length (now values)) (pairPart (length (now values)) groups (now values) (now levels))) ≤ length (now text) ⌝ }
     ensures { λ r. ⌜ Puts (now (text .entry)) at
-        (joinBelow (length (now (values .entry))) (pairPart (now (values .entry)) (now (levels .entry)))) r (now (text .exit)) ⌝ }
+        (joinBelow (length (now (values .entry))) (pairPart (length (now (values .entry))) groups (now (values .entry)) (now (levels .entry)))) r
+        (now (text .exit)) ⌝ }
 {
     let mut next = at;
     let mut atom = 0;
     while atom < values.len() {
-        next = put_pair(text, next, values, levels, atom);
+        next = put_pair(text, next, groups, values, levels, atom);
         atom += 1;
     }
     next

@@ -5,7 +5,8 @@ use mathlib.Core.List.{_++_, _∷_}
 use lib.ListN.{length}
 use borrow.Author.Needs.{needs}
 use Rattle.tables.specs.Faults.{firstFault}
-use Rattle.tables.specs.Sound.{Tables, lent, bookOf, markTest}
+use Rattle.tables.specs.Rows.{groupCount}
+use Rattle.tables.specs.Sound.{Tables, lent, groupOf, markTest}
 use Rattle.satisfaction.specs.Satisfied.{satisfactionTests}
 use Rattle.tables.proofs.Faults.{found-refuses, nothing-leaves, verdict-refuses, verdict-leaves}
 use Rattle.checker.specs.Check.{valueTest, levelTests, claimTests}
@@ -24,7 +25,7 @@ marks-fit :
     let tests = claimTests (given start) (start .args .values .now) (start .args .levels .now) in
     firstFault (markTest (given start) ∷ tests) ≡ firstFault tests
 unfolding markTest lent
-marks-fit c = let start = c .before .before .before .before .before .before .before .before .before .before in nothing-leaves _ _ _ _ refl (rw (start .pre .1 .1 .1) at (c .before .before .not-held-atom .ensures)) (c .enum-told .given .1)
+marks-fit c = let start = c .before .before .before .before .before .before .before .before .before .before in nothing-leaves _ _ _ _ refl (rw (start .pre .1 .1 .1 .1) at (c .before .before .not-held-atom .ensures)) (c .enum-told .given .1)
 
 values-fit :
     (c : tie.After-enum-told2) →
@@ -32,7 +33,7 @@ values-fit :
     let t = given start in
     let a = start .args in
     firstFault (markTest t ∷ claimTests t (a .values .now) (a .levels .now))
-    ≡ firstFault (levelTests (bookOf t) (a .rules .now) (a .literals .now) (a .values .now) (a .levels .now) ++ satisfactionTests t (a .values .now))
+    ≡ firstFault (levelTests (groupOf t) (t .atoms) (groupCount (t .rules)) (a .rules .now) (a .literals .now) (a .values .now) (a .levels .now) ++ satisfactionTests t (a .values .now))
 unfolding claimTests valueTest lent
 values-fit c = nothing-leaves _ _ _ _ (marks-fit (c .before .before .before)) (c .before .before .not-held-atom2 .ensures) (c .enum-told2 .given .1)
 
@@ -46,7 +47,7 @@ returns : tie.Need-returns
 unfolding markTest lent
 returns c =
     let start = c .before .before .before .before .before .before .before .before .before .before .before in
-    found-refuses _ _ _ _ _ refl (rw (start .pre .1 .1 .1) at (c .before .before .before .not-held-atom .ensures)) (c .before .atom .given .1)
+    found-refuses _ _ _ _ _ refl (rw (start .pre .1 .1 .1 .1) at (c .before .before .before .not-held-atom .ensures)) (c .before .atom .given .1)
 
 enum-told : tie.Need-enum-told
 enum-told c = search needs
@@ -64,16 +65,16 @@ returns-2 c = found-refuses _ _ _ _ _ (marks-fit (c .before .before .before .bef
 enum-told-2 : tie.Need-enum-told-2
 enum-told-2 c = search needs
 
-level-fault-requires : tie.Need-level-fault-requires
-level-fault-requires c κs = search needs
+group-fault-requires : tie.Need-group-fault-requires
+group-fault-requires c κs = search needs
 
 enum-told-3 : tie.Need-enum-told-3
 enum-told-3 c = search needs
 
 returns-3 : tie.Need-returns-3
-unfolding lent bookOf
+unfolding lent groupOf
 returns-3 c =
-    verdict-refuses _ _ _ _ _ _ (values-fit (c .before .before .before)) (c .before .before .level-fault .ensures) (c .enum-told3 .given .1)
+    verdict-refuses _ _ _ _ _ _ (values-fit (c .before .before .before)) (rw (c .before .before .before .before .before .before .before .before .before .before .before .before .before .before .before .before .pre .1 .0) at (c .before .before .group-fault .ensures)) (c .enum-told3 .given .1)
 
 enum-told-4 : tie.Need-enum-told-4
 enum-told-4 c = search needs
@@ -82,10 +83,10 @@ satisfaction-fault-requires : tie.Need-satisfaction-fault-requires
 satisfaction-fault-requires c κs = search needs
 
 returns-4 : tie.Need-returns-4
-unfolding lent bookOf satisfactionTests
+unfolding lent groupOf satisfactionTests
 returns-4 c =
     c .satisfaction-fault .ensures
-    ∙ sym (verdict-leaves _ _ _ _ (values-fit (c .before .before .before .before)) (c .before .before .before .level-fault .ensures) (c .before .enum-told4 .given .1))
+    ∙ sym (verdict-leaves _ _ _ _ (values-fit (c .before .before .before .before)) (rw (c .before .before .before .before .before .before .before .before .before .before .before .before .before .before .before .before .before .pre .1 .0) at (c .before .before .before .group-fault .ensures)) (c .before .enum-told4 .given .1))
 
 pub claim-fault-spec : {M : Type 1} → statement M
 claim-fault-spec =
@@ -99,7 +100,7 @@ claim-fault-spec =
     enum-known-atom-2
     returns-2
     enum-told-2
-    level-fault-requires
+    group-fault-requires
     enum-told-3
     returns-3
     enum-told-4

@@ -6,11 +6,13 @@ use mathlib.Core.List.{[], _∷_}
 use native.Mathlib.Omega.{arith}
 use lib.ListN.{length}
 use borrow.Author.Needs.{needs}
+use Rattle.tables.specs.Limits.{maxAtoms}
 use Rattle.tables.specs.Faults.{lowest, firstFault}
 use Rattle.tables.specs.Values.{notHeld}
 use Rattle.satisfaction.specs.Satisfied.{satisfactionTests}
 use Rattle.tables.specs.Sound.{Tables, lent, bookOf}
 use Rattle.rounds.specs.internal.Rounds.{RoundsDone}
+use Rattle.tables.proofs.MarkLaws.{fresh-unmarked}
 use Rattle.tables.proofs.RowLaws.{book-size}
 use Rattle.evaluator.specs.Evaluate.{badSetting, settingTest}
 use Rattle.evaluator.specs.internal.Lent.{startTests}
@@ -61,7 +63,7 @@ mark-defined-requires : tie.Need-mark-defined-requires
 unfolding lent
 mark-defined-requires c κs =
     let pre = c .before .before .before .before .before .before .before .before .before .before .before .before .before .pre in
-    (λ row l. let head = pre .rows .heads row l in omega (arith, pre .few, head), omega (arith, pre .few, pre .marksLong))
+    (λ row l. let head = pre .rows .heads row l in omega (arith, pre .few, head), (omega (arith, pre .few, pre .marksLong), fresh-unmarked maxAtoms))
 
 slice-aggregate-bad-setting : tie.Need-slice-aggregate-bad-setting
 slice-aggregate-bad-setting c = search needs

@@ -3,6 +3,8 @@
 use Prim.Native.Nat.{_*_}
 use lib.ListN.{length}
 use borrow.Author.Needs.{needs}
+use Rattle.tables.specs.Limits.{maxAtoms}
+use Rattle.tables.proofs.MarkLaws.{fresh-unmarked}
 use Rattle.indexed.proofs.IndexedLaws.{heads-fit, marks-fit, setting-fits, setting-stops, advance-ready, follows}
 use Rattle.indexed.proofs.follow.Statement.{statement}
 use Rattle.indexed.proofs.follow.Tie as tie
@@ -11,7 +13,7 @@ slice-aggregate-mark-defined : tie.Need-slice-aggregate-mark-defined
 slice-aggregate-mark-defined c = search needs
 
 mark-defined-requires : tie.Need-mark-defined-requires
-mark-defined-requires c κs = (heads-fit (c .before .before .before .before .before .before .before .before .before .before .before .pre), marks-fit (c .before .before .before .before .before .before .before .before .before .before .before .pre))
+mark-defined-requires c κs = (heads-fit (c .before .before .before .before .before .before .before .before .before .before .before .pre), (marks-fit (c .before .before .before .before .before .before .before .before .before .before .before .pre), fresh-unmarked maxAtoms))
 
 slice-aggregate-bad-setting : tie.Need-slice-aggregate-bad-setting
 slice-aggregate-bad-setting c = search needs

@@ -26,7 +26,7 @@ earlyTests t setting values levels work starts entries counts =
 
 -- The definition of so many rules and marks over as many atoms as the setting has values.
 unfoldable pub ruled : List ℕ → List ℕ → List ℕ → List ℕ → Definition
-ruled rules literals marks setting = definitionOf (length setting) rules literals marks
+ruled rules literals marks setting = definitionOf (length setting) rules literals marks 0
 
 -- Rules that can be followed: they have no fault, and every slice has its length.
 pub record Followable (rules literals marks setting values levels work starts entries counts : List ℕ) : Type 0 where

@@ -1,147 +1,35 @@
--- `lists::read_pairs` meets its contract: the pairs read so far are stored, and the rest are read where the loop has come to.
+-- `lists::read_pairs` meets its contract: one pass for the values and the first group, and the others for the groups after it.
 -- Assumes nothing.
-use Prim.Native.Nat.{_+_, _-_}
-use mathlib.Core.Path.{_≡_, sym, _∙_}
-use mathlib.Core.Bool.{true}
-use mathlib.Core.List.{[], _∷_}
-use native.Mathlib.Omega.{arith}
-use lib.ListN.{length}
+use lib.ListN.{drop}
 use borrow.Author.Needs.{needs}
-use borrow.Author.Tests.{not-true, not-false}
-use Rattle.items.specs.declared.pairs.Pair.the-variants.{Paired}
-use Rattle.format.specs.Forms.{pairBytes}
-use Rattle.format.specs.Words.{wordAt}
-use Rattle.format.specs.Parse.{readPair}
-use Rattle.items.specs.internal.Places.{pairAt}
-use Rattle.format.proofs.Pieces.{pair-inverse}
-use Rattle.items.proofs.ItemLaws.{byte-got, pair-none}
-use Rattle.lists.proofs.ListLaws.{listing-refused, listing-unclosed, listing-end}
-use Rattle.lists.proofs.TermLaws.{PairsCame, pairs-start, pairs-count, pairs-on, pairs-turn}
+use Rattle.format.specs.Parse.{parts, readPair}
+use Rattle.lists.proofs.PairLaws.{pairs-laid}
 use Rattle.lists.proofs.read_pairs.Statement.{statement}
 use Rattle.lists.proofs.read_pairs.Tie as tie
 
-abbrev Inv-loop : tie.InvT-loop
-Inv-loop text at values₀ levels₀ next₀ count₀ within₀ values levels next count within = PairsCame text at values₀ levels₀ values levels next count within
+read-values-requires : tie.Need-read-values-requires
+read-values-requires c κs = search needs
 
-abbrev μ-loop : tie.MeasureT-loop
-μ-loop text at values₀ levels₀ next₀ count₀ within₀ values levels next count within = length text - next
+read-columns-requires : tie.Need-read-columns-requires
+read-columns-requires c κs = search needs
 
-loop-holds : tie.Need-loop-holds Inv-loop μ-loop
-loop-holds c = pairs-start _ _ _ _ (c .before .before .before .pre .reached)
+same-length : tie.Need-same-length
+same-length c = search needs
 
-byte-at-requires : tie.Need-byte-at-requires Inv-loop μ-loop
-byte-at-requires c κs = tt
+same-length-2 : tie.Need-same-length-2
+same-length-2 c = search needs
 
-spaced : (c : tie.Then1 Inv-loop μ-loop) → wordAt (c .before .before .before .before .before .before .args .text .now) (c .before .before .loop .next) (32 ∷ []) ≡ true
-spaced c = sym (c .before .byte-at .ensures) ∙ c .if1 .taken
-
-add-read-pair : tie.Need-add-read-pair Inv-loop μ-loop
-add-read-pair c = let l = byte-got _ _ _ (spaced c) .1 in omega (arith, c .before .before .before .before .before .before .pre .short)
-
-read-pair-requires : tie.Need-read-pair-requires Inv-loop μ-loop
-read-pair-requires c κs = tt
-
-enum-known-value : tie.Need-enum-known-value Inv-loop μ-loop
-enum-known-value c = search needs
-
-enum-told : tie.Need-enum-told Inv-loop μ-loop
-enum-told c = search needs
-
-same-length : tie.Need-same-length Inv-loop μ-loop
-same-length c = c .before .before .before .before .before .loop .inv .sameValues
-
-same-length-2 : tie.Need-same-length-2 Inv-loop μ-loop
-same-length-2 c = c .before .before .before .before .before .loop .inv .sameLevels
-
-returns : tie.Need-returns Inv-loop μ-loop
+returns : tie.Need-returns
 returns c =
-    listing-refused pairBytes readPair pair-inverse (c .before .before .before .before .before .loop .inv .listing) (spaced (c .before .before .before))
-    (pair-none _ _ (sym (c .before .before .read-pair .ensures) ∙ c .enum-told .given .1))
-
-store-value-requires : tie.Need-store-value-requires Inv-loop μ-loop
-store-value-requires c κs = tt
-
-store-requires : tie.Need-store-requires Inv-loop μ-loop
-store-requires c κs = tt
-
-read :
-    (c : tie.After-value Inv-loop μ-loop) →
-    let v = c .value .given .0 in
-    pairAt (c .before .before .before .before .before .before .before .before .before .args .text .now) (c .before .before .before .before .before .loop .next + 1) ≡ Paired (v .0) (v .1 .0) (v .1 .1 .0)
-read c = sym (c .before .before .read-pair .ensures) ∙ c .value .given .1
-
-add-count : tie.Need-add-count Inv-loop μ-loop
-add-count c =
-    let loop = c .before .before .before .before .before .before .before .before .before .before .before .before .before .before in
-    omega (arith, pairs-count (loop .loop .inv), loop .before .before .before .before .pre .short)
-
-loop-less : tie.Need-loop-less Inv-loop μ-loop
-loop-less c =
-    let pair = c .before .before .before .before .before .before .before .before .before in
-    let turn = pair .before .before .before in
-    pairs-on (turn .before .before .loop .inv) (spaced turn) (read pair)
-
-loop-again : tie.Need-loop-again Inv-loop μ-loop
-loop-again c =
-    let levels = c .before .before .store in
-    let paired = c .before .before .before .before .before .before in
-    let values = paired .store-value in
-    let pair = paired .before .before .before in
-    let turn = pair .before .before .before in
-    pairs-turn (turn .before .before .loop .inv) (spaced turn) (read pair) (values .ensures) (values .kept .0) (levels .ensures) (levels .kept .0)
-
-byte-at-requires-2 : tie.Need-byte-at-requires-2 Inv-loop μ-loop
-byte-at-requires-2 c κs = tt
-
-same-length-3 : tie.Need-same-length-3 Inv-loop μ-loop
-same-length-3 c = c .before .before .before .before .loop .inv .sameValues
-
-same-length-4 : tie.Need-same-length-4 Inv-loop μ-loop
-same-length-4 c = c .before .before .before .before .loop .inv .sameLevels
-
-returns-2 : tie.Need-returns-2 Inv-loop μ-loop
-returns-2 c =
-    listing-unclosed pairBytes readPair pair-inverse (c .before .before .before .before .loop .inv .listing)
-    (sym (c .before .before .before .byte-at .ensures) ∙ c .before .before .if1 .left) (sym (c .before .byte-at2 .ensures) ∙ not-true _ (c .if2 .taken))
-
-add-t24 : tie.Need-add-t24 Inv-loop μ-loop
-add-t24 c = let l = byte-got _ _ _ (sym (c .before .byte-at2 .ensures) ∙ not-false _ (c .if2 .left)) .1 in omega (arith, c .before .before .before .before .before .before .before .before .pre .short)
-
-same-length-5 : tie.Need-same-length-5 Inv-loop μ-loop
-same-length-5 c = c .before .before .before .before .loop .inv .sameValues
-
-same-length-6 : tie.Need-same-length-6 Inv-loop μ-loop
-same-length-6 c = c .before .before .before .before .loop .inv .sameLevels
-
-returns-3 : tie.Need-returns-3 Inv-loop μ-loop
-returns-3 c =
-    listing-end pairBytes readPair pair-inverse (c .before .before .before .before .loop .inv .listing) (sym (c .before .byte-at2 .ensures) ∙ not-false _ (c .if2 .left))
+    let columns = c .before .before .read-columns in
+    let values = c .before .before .before .before .before .before .before .before .read-values in
+    let a = c .before .before .before .before .before .before .before .before .before .before .before .before .before .before .args in
+    record {
+      answered = values .ensures .answered;
+      laid =
+          pairs-laid (a .values .now) (a .levels .now) (values .last .1 .1 .1 .0) (values .last .1 .1 .1 .1 .0) (columns .last .1 .1 .1 .1 .0) (a .groups) (a .size)
+          (parts readPair (drop (a .at) (a .text .now))) (values .ensures .laid) (columns .ensures);
+    }
 
 pub read-pairs-spec : {M : Type 1} → statement M
-read-pairs-spec =
-    tie.close
-    (tie.spec
-    Inv-loop
-    μ-loop
-    loop-holds
-    byte-at-requires
-    add-read-pair
-    read-pair-requires
-    enum-known-value
-    enum-told
-    same-length
-    same-length-2
-    returns
-    store-value-requires
-    store-requires
-    add-count
-    loop-less
-    loop-again
-    byte-at-requires-2
-    same-length-3
-    same-length-4
-    returns-2
-    add-t24
-    same-length-5
-    same-length-6
-    returns-3)
+read-pairs-spec = tie.close (tie.spec read-values-requires read-columns-requires same-length same-length-2 returns)

@@ -15,22 +15,28 @@ module _ {A : Type 0} where
   unfoldable pub stored : Bool → List A → ℕ → A → List A
   stored small table place entry = cond small (set table place entry) table
 
--- Parts that were listed: how many, whether all are within their limits, whether they rise, and the offset after them.
+-- Parts that were listed: how many, whether all are within their limits, whether they stand as their form asks (atoms rise, pairs have a level
+-- for each group), and the offset after them.
 module _ {A : Type 0} where
   unfoldable pub listed : List ℕ → (A → Bool) → (List A → Bool) → Reading (List A) → Parts
-  listed text within rising (got xs rest) = Listed (length xs) (all within xs) (rising xs) (length text - length rest)
-  listed text within rising refused = NoList
+  listed text within ordered (got xs rest) = Listed (length xs) (all within xs) (ordered xs) (length text - length rest)
+  listed text within ordered refused = NoList
 
 -- A place in a text that is short enough to be read.
 pub record Inside (text : List ℕ) (at : ℕ) : Type 0 where
   pub reached : at ≤ length text
   pub short : length text ≤ maxBytes
 
--- What a function promises that reads a list of parts: its answer, and what it has written where all parts are within their limits.
-pub record Lists {A : Type 0} (text : List ℕ) (within : A → Bool) (rising : List A → Bool) (reading : Reading (List A)) (answer : Parts)
+-- What was written for parts that were listed, where all are within their limits.
+module _ {A : Type 0} where
+  abbrev pub Laid : (A → Bool) → Reading (List A) → (List A → Type 0) → Type 0
+  Laid within reading written = Holds (λ xs rest. all within xs ≡ true → written xs) reading
+
+-- What a function promises that reads a list of parts: its answer, and what it has written.
+pub record Lists {A : Type 0} (text : List ℕ) (within : A → Bool) (ordered : List A → Bool) (reading : Reading (List A)) (answer : Parts)
     (written : List A → Type 0) : Type 0 where
-  pub answered : answer ≡ listed text within rising reading
-  pub laid : Holds (λ xs rest. all within xs ≡ true → written xs) reading
+  pub answered : answer ≡ listed text within ordered reading
+  pub laid : Laid within reading written
 
 -- The atoms that a form names, marked one by one.
 unfoldable pub marked : List ℕ → List ℕ → List ℕ

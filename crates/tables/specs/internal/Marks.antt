@@ -1,12 +1,12 @@
 -- Marks on atoms, as a scan keeps them in an array.
 use Prim.Native.Nat.{ℕ, _<_}
 use mathlib.Core.Path.{_≡_}
-use mathlib.Core.Bool.{Bool, cond}
+use mathlib.Core.Bool.{Bool, false, cond, _&&_}
 use mathlib.Core.List.{List}
 use lib.Dec.{eqb}
 use lib.ListN.{length, getD, set}
 use Rattle.wellfounded.specs.Lists.{tabulate}
-use Rattle.tables.specs.Rows.{definedBy}
+use Rattle.tables.specs.Rows.{isDeclared, definedBy}
 
 -- An atom is marked by 1.
 unfoldable pub isMarked : List ℕ → ℕ → Bool
@@ -25,7 +25,16 @@ pub record Copied (marks before now : List ℕ) : Type 0 where
   pub long : length now ≡ length before
   pub same : (atom : ℕ) → atom < length marks → getD now atom 0 ≡ getD marks atom 0
 
--- Marks in an array of some size that tell which atoms a book's rules and marks define.
-pub record TellsDefined (rules marks : List ℕ) (size : ℕ) (now : List ℕ) : Type 0 where
+-- An array without marks.
+pub record Unmarked (marks : List ℕ) : Type 0 where
+  pub none : (atom : ℕ) → isMarked marks atom ≡ false
+
+-- Marks that tell which atoms a book declares defined in a group: those of its marks in group 0, and none in any other.
+pub record Declares (marks : List ℕ) (group : ℕ) (before now : List ℕ) : Type 0 where
+  pub long : length now ≡ length before
+  pub tells : (atom : ℕ) → atom < length marks → isMarked now atom ≡ (eqb group 0 && isDeclared marks atom)
+
+-- Marks in an array of some size that tell which atoms a group of a book's rules defines, with the book's marks.
+pub record TellsDefined (rules marks : List ℕ) (group size : ℕ) (now : List ℕ) : Type 0 where
   pub long : length now ≡ size
-  pub tells : (atom : ℕ) → atom < length marks → isMarked now atom ≡ definedBy rules marks atom
+  pub tells : (atom : ℕ) → atom < length marks → isMarked now atom ≡ definedBy rules marks group atom

@@ -10,7 +10,7 @@ use Rattle.tables.proofs.Faults.{accepted-absent, verdict-refuses, verdict-leav
 use Rattle.tables.proofs.SoundTables.{lent-order, slice-refuses, slice-leaves, sized-none, sized-more, marks-refuse, marks-leave}
 use Rattle.writing.specs.Writing.{textTest, writeTests, writeOf}
 use Rattle.writing.specs.internal.Lent.{Lent}
-use Rattle.writing.proofs.WriteLaws.{refused-writes, as-promised}
+use Rattle.writing.proofs.WriteLaws.{one-sized, refused-writes, as-promised}
 use Rattle.writing.proofs.write.Statement.{statement}
 use Rattle.writing.proofs.write.Tie as tie
 
@@ -40,7 +40,7 @@ slices-fit :
     writeOf t (a .values .now) (a .levels .now) (length (a .text .now))
     ≡ firstFault (markCountTest t ∷ markTest t ∷ textTest t (a .values .now) (a .levels .now) (length (a .text .now)) ∷ [])
 unfolding lent
-slices-fit c = tables-fit (c .before .before) ∙ slice-leaves _ _ (sized-more (c .before .if1 .left) (sized-more (c .if2 .left) sized-none))
+slices-fit c = tables-fit (c .before .before) ∙ slice-leaves _ _ (sized-more (c .before .if1 .left) (sized-more (c .if2 .left ∙ sym (one-sized _ _)) sized-none))
 
 table-fault-requires : tie.Need-table-fault-requires
 table-fault-requires c κs = search needs
@@ -71,7 +71,7 @@ refused-requires-2 c κs = search needs
 
 returns-3 : tie.Need-returns-3
 unfolding lent
-returns-3 c = as-promised (refused-writes _ _ (tables-fit (c .before .before .before) ∙ slice-refuses _ _ _ (List·Memᴰ·tail (List·Memᴰ·head refl)) (c .before .if2 .taken)) (c .refused2 .ensures))
+returns-3 c = as-promised (refused-writes _ _ (tables-fit (c .before .before .before) ∙ slice-refuses _ _ _ (List·Memᴰ·tail (List·Memᴰ·head refl)) (λ e. c .before .if2 .taken (e ∙ one-sized _ _))) (c .refused2 .ensures))
 
 refused-requires-3 : tie.Need-refused-requires-3
 refused-requires-3 c κs = search needs

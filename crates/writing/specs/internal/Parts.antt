@@ -1,5 +1,5 @@
 -- The bytes of single parts, each after its space, and of single lines with their ends.
-use Prim.Native.Nat.{ℕ}
+use Prim.Native.Nat.{ℕ, _+_, _*_}
 use mathlib.Core.Bool.{cond}
 use mathlib.Core.List.{List, [], _∷_, _++_, map}
 use lib.IntN.{ℤ}
@@ -10,15 +10,18 @@ use Rattle.tables.specs.Loads.{termAt, termsAt, loadAt, loadsOf}
 use Rattle.format.specs.Forms.{Form, space, lineEnd, decimal, literalBytes, termBytes, pairBytes, partsBytes, render, renderAll}
 use Rattle.writing.specs.BookForms.{literalText, termText, ruleFormOf, clauseFormOf, loadFormOf, claimedPair}
 
--- The literal, the term, the pair and the marked atom at a place.
+-- The literal, the term, the level in a group, the pair and the marked atom at a place.
 unfoldable pub literalPart : List ℕ → ℕ → List ℕ
 literalPart literals place = space ∷ literalBytes (literalText (getD literals place 0))
 
 unfoldable pub termPart : List ℕ → List ℤ → ℕ → List ℕ
 termPart loadLiterals minutes place = space ∷ termBytes (termText (termAt loadLiterals minutes place))
 
-unfoldable pub pairPart : List ℕ → List ℕ → ℕ → List ℕ
-pairPart values levels atom = space ∷ pairBytes (claimedPair values levels atom)
+unfoldable pub levelPart : ℕ → List ℕ → ℕ → ℕ → List ℕ
+levelPart atoms levels atom group = space ∷ decimal (getD levels (group * atoms + atom) 0)
+
+unfoldable pub pairPart : ℕ → ℕ → List ℕ → List ℕ → ℕ → List ℕ
+pairPart atoms groups values levels atom = space ∷ pairBytes (claimedPair atoms groups values levels atom)
 
 unfoldable pub markPart : List ℕ → ℕ → List ℕ
 markPart marks atom = cond (isDeclared marks atom) (space ∷ decimal atom) []

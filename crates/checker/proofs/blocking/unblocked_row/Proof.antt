@@ -11,17 +11,17 @@ use Rattle.checker.proofs.blocking.unblocked_row.Statement.{statement}
 use Rattle.checker.proofs.blocking.unblocked_row.Tie as tie
 
 abbrev Inv-loop : tie.InvT-loop
-Inv-loop rules literals values levels rows next found row head start size level i₀ i =
-    RowScan rules literals values levels row head start size i
+Inv-loop rules literals group values levels rows next found row head start size level i₀ i =
+    RowScan rules literals group values levels row head start size i
 
 abbrev μ-loop : tie.MeasureT-loop
-μ-loop rules literals values levels rows next found row head start size level i₀ i = size - i
+μ-loop rules literals group values levels rows next found row head start size level i₀ i = size - i
 
 abbrev Inv-rows : tie.InvT-rows
-Inv-rows rules literals values levels rows next₀ found₀ next found = SearchedRows rules literals values levels next × (found ≡ Nothing)
+Inv-rows rules literals group values levels rows next₀ found₀ next found = SearchedRows rules literals group values levels next × (found ≡ Nothing)
 
 abbrev μ-rows : tie.MeasureT-rows
-μ-rows rules literals values levels rows next₀ found₀ next found = rows - next
+μ-rows rules literals group values levels rows next₀ found₀ next found = rows - next
 
 rule-count-requires : tie.Need-rule-count-requires Inv-loop μ-loop Inv-rows μ-rows
 rule-count-requires c κs = search needs
@@ -35,18 +35,19 @@ add-next c = omega arith
 rule-head-requires : tie.Need-rule-head-requires Inv-loop μ-loop Inv-rows μ-rows
 rule-head-requires c κs = omega arith
 
+rule-group-requires : tie.Need-rule-group-requires Inv-loop μ-loop Inv-rows μ-rows
+rule-group-requires c κs = omega arith
+
 shared-slice-read-if1 : tie.Need-shared-slice-read-if1 Inv-loop μ-loop Inv-rows μ-rows
-shared-slice-read-if1 c =
-    row-head (c .before .before .before .before .before .before .before .before .before .pre .levelled .rows) (omega arith) (c .before .rule-head .ensures .is)
+shared-slice-read-if1 c = row-head (c .before .before .before .before .before .before .before .before .before .before .pre .levelled .rows) (omega arith) (c .before .before .rule-head .ensures .is)
 
 rows-less : tie.Need-rows-less Inv-loop μ-loop Inv-rows μ-rows
 rows-less c = omega arith
 
 rows-again : tie.Need-rows-again Inv-loop μ-loop Inv-rows μ-rows
 rows-again c =
-    let pre = c .before .before .before .before .before .before .before .before .before .before .pre in
-    let found = c .before .before .before .before .rows .inv in
-    (row-passed pre (omega arith) (c .before .before .rule-head .ensures .is) (found .0) (c .if1 .taken), found .1)
+    let found = c .before .before .before .before .before .rows .inv in
+    (row-passed (c .before .before .before .before .before .before .before .before .before .before .before .pre) (omega arith) (c .before .before .before .rule-head .ensures .is) (found .0) (c .before .before .rule-group .ensures .is) (c .if1 .taken), found .1)
 
 rule-start-requires : tie.Need-rule-start-requires Inv-loop μ-loop Inv-rows μ-rows
 rule-start-requires c κs = omega arith
@@ -59,15 +60,12 @@ mul-level c = omega arith
 
 shared-slice-read-level : tie.Need-shared-slice-read-level Inv-loop μ-loop Inv-rows μ-rows
 shared-slice-read-level c =
-    let pre = c .before .before .before .before .before .before .before .before .before .before .before .before .before .pre in
-    let within = row-head (pre .levelled .rows) (omega arith) (c .before .before .before .before .before .rule-head .ensures .is) in
+    let within = row-head (c .before .before .before .before .before .before .before .before .before .before .before .before .before .before .pre .levelled .rows) (omega arith) (c .before .before .before .before .before .before .rule-head .ensures .is) in
     omega arith
 
 loop-holds : tie.Need-loop-holds Inv-loop μ-loop Inv-rows μ-rows
 loop-holds c =
-    let pre = c .before .before .before .before .before .before .before .before .before .before .before .before .before .pre in
-    row-start pre (omega arith) (c .before .before .before .before .before .rule-head .ensures .is)
-    (c .before .before .before .before .before .before .before .rows .inv .0) (c .before .before .before .if1 .left)
+    row-start (c .before .before .before .before .before .before .before .before .before .before .before .before .before .before .pre) (omega arith) (c .before .before .before .before .before .before .rule-head .ensures .is) (c .before .before .before .before .before .before .before .before .rows .inv .0) (c .before .before .before .before .before .rule-group .ensures .is) (c .before .before .before .if1 .left)
     (c .before .before .rule-start .ensures .is) (c .before .rule-size .ensures .is)
 
 mul-literal-blocks : tie.Need-mul-literal-blocks Inv-loop μ-loop Inv-rows μ-rows
@@ -92,7 +90,7 @@ rows-again-2 : tie.Need-rows-again-2 Inv-loop μ-loop Inv-rows μ-rows
 rows-again-2 c =
     let scan = c .before .before .before .before .loop .inv in (
       row-stop scan (c .before .before .before .loop-test .taken) (c .before .literal-blocks .ensures) (c .if2 .taken),
-      c .before .before .before .before .before .before .before .before .before .before .before .before .rows .inv .1,
+      c .before .before .before .before .before .before .before .before .before .before .before .before .before .rows .inv .1,
     )
 
 add-i : tie.Need-add-i Inv-loop μ-loop Inv-rows μ-rows
@@ -124,6 +122,7 @@ unblocked-row-spec =
     rows-holds
     add-next
     rule-head-requires
+    rule-group-requires
     shared-slice-read-if1
     rows-less
     rows-again

@@ -13,12 +13,12 @@ use Rattle.checker.proofs.support.mark_supported.Statement.{statement}
 use Rattle.checker.proofs.support.mark_supported.Tie as tie
 
 abbrev Inv-loop : tie.InvT-loop
-Inv-loop rules literals values levels supported₀ rows row₀ supported row =
+Inv-loop rules literals group values levels supported₀ rows row₀ supported row =
     (row ≤ rows) ×
-    Marked (λ r atom. eqb (ruleHead rules r) atom && supportsRow rules literals values levels r) supported₀ row supported
+    Marked (λ r atom. eqb (ruleHead rules r) atom && supportsRow rules literals group values levels r) supported₀ row supported
 
 abbrev μ-loop : tie.MeasureT-loop
-μ-loop rules literals values levels supported₀ rows row₀ supported row = rows - row
+μ-loop rules literals group values levels supported₀ rows row₀ supported row = rows - row
 
 rule-count-requires : tie.Need-rule-count-requires Inv-loop μ-loop
 rule-count-requires c κs = search needs

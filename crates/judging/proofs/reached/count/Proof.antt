@@ -50,6 +50,9 @@ enum-told-5 c = search needs
 enum-told-6 : tie.Need-enum-told-6
 enum-told-6 c = search needs
 
+levels-told-requires : tie.Need-levels-told-requires
+levels-told-requires c κs = search needs
+
 enum-told-7 : tie.Need-enum-told-7
 enum-told-7 c = search needs
 
@@ -83,7 +86,7 @@ returns-6 c =
     rw (c .before .before .before .before .before .before .enum-told6 .given .1) (record {
       state = simp add-zero;
       limits = other-limits _ _ (begin .args .size) (begin .args .parts) (begin .pre .0) Claim refl refl refl;
-      fitting = claim-space _ _ (begin .args .size) (begin .args .parts) (begin .pre .0);
+      fitting = claim-space _ _ (begin .args .size) (begin .args .parts) (begin .pre .0) (c .before .levels-told .ensures);
     })
 
 returns-7 : tie.Need-returns-7
@@ -122,6 +125,7 @@ count-spec =
     returns-3
     enum-told-5
     enum-told-6
+    levels-told-requires
     enum-told-7
     enum-told-8
     returns-4

@@ -85,7 +85,7 @@ read-claim-form-requires : tie.Need-read-claim-form-requires
 unfolding wordOf
 read-claim-form-requires c κs =
     let here = c .before .before .before .before in
-    inside-after (atStart here .pre .inside) (here .kind-at .ensures) Claim (c .before .before .enum-told6 .given .1)
+    (inside-after (atStart here .pre .inside) (here .kind-at .ensures) Claim (c .before .before .enum-told6 .given .1), atStart here .pre .atoms)
 
 enum-told-7 : tie.Need-enum-told-7
 enum-told-7 c = search needs

@@ -41,7 +41,7 @@ unfolding lent
 put-claim-requires c κs =
     let start = c .before .before .before .before .before .before .before .before .before .before .before .before .before .before .before .before .before .before .before .before .before in
     let long = book-length (given start) (start .args .values .now) (start .args .levels .now) (start .pre .0 .marked) in
-    (start .pre .0 .levelled, omega (arith, start .pre .1, c .before .before .before .before .before .before .before .before .before .before .before .put-atoms .ensures .answered, c .before .before .before .before .before .before .before .put-defined .ensures .answered, c .before .before .before .put-rows .ensures .answered))
+    (omega (arith, start .pre .0 .levelled), omega (arith, start .pre .1, c .before .before .before .before .before .before .before .before .before .before .before .put-atoms .ensures .answered, c .before .before .before .before .before .before .before .put-defined .ensures .answered, c .before .before .before .put-rows .ensures .answered))
 
 same-length : tie.Need-same-length
 same-length c = search needs

@@ -43,7 +43,7 @@ claim-length-requires : tie.Need-claim-length-requires
 unfolding lent
 claim-length-requires c κs =
     let start = c .before .before .before .before .before .before .before .before .before .before in
-    (start .pre .0 .levelled, omega (arith, start .pre .0 .few))
+    (omega (arith, start .pre .0 .levelled), omega (arith, start .pre .0 .few), omega arith)
 
 add-result-3 : tie.Need-add-result-3
 add-result-3 c = search needs

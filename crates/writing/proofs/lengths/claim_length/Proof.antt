@@ -1,25 +1,26 @@
 -- `writing::lengths::claim_length` meets its contract: the pairs of the atoms passed are in the total, and the word and the line's end come to it.
 -- Assumes nothing.
-use Prim.Native.Nat.{_-_}
+use Prim.Native.Nat.{_+_, _-_, _*_}
 use native.Mathlib.Omega.{arith}
 use lib.ListN.{length}
 use Rattle.writing.specs.internal.Parts.{pairPart}
+use Rattle.writing.specs.internal.Counting.{maxGroups}
 use Rattle.writing.proofs.LengthLaws.{Adding, adding-start, adding-turn, adding-end}
 use Rattle.writing.proofs.TextLaws.{parts-length, claim-parts}
 use Rattle.writing.proofs.lengths.claim_length.Statement.{statement}
 use Rattle.writing.proofs.lengths.claim_length.Tie as tie
 
 abbrev Inv-loop : tie.InvT-loop
-Inv-loop values levels total₀ atom₀ total atom = Adding (pairPart values levels) 18 (length values) atom total
+Inv-loop groups values levels total₀ atom₀ total atom = Adding (pairPart (length values) groups values levels) (10 + 8 * maxGroups) (length values) atom total
 
 abbrev μ-loop : tie.MeasureT-loop
-μ-loop values levels total₀ atom₀ total atom = length values - atom
+μ-loop groups values levels total₀ atom₀ total atom = length values - atom
 
 loop-holds : tie.Need-loop-holds Inv-loop μ-loop
 loop-holds c = adding-start _ _ _
 
 pair-length-requires : tie.Need-pair-length-requires Inv-loop μ-loop
-pair-length-requires c κs = (omega arith, omega arith)
+pair-length-requires c κs = let pre = c .before .before .before .before .pre in (omega arith, pre .0, pre .2)
 
 add-total : tie.Need-add-total Inv-loop μ-loop
 add-total c = omega arith
@@ -41,7 +42,7 @@ returns c =
     let start = c .before .before .before .before in
     let all = adding-end _ _ _ _ _ (omega arith) (c .before .loop .inv) in
     record {
-      is = omega (arith, all .is, parts-length (claim-parts (length (start .args .values .now)) (start .args .values .now) (start .args .levels .now)));
+      is = omega (arith, all .is, parts-length (claim-parts (length (start .args .values .now)) (start .args .groups) (start .args .values .now) (start .args .levels .now)));
       few = omega (arith, all .few);
     }
 

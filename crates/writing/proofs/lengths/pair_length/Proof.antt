@@ -1,6 +1,7 @@
--- `writing::lengths::pair_length` meets its contract: two numbers, and four bytes around them.
+-- `writing::lengths::pair_length` meets its contract: the value, the levels, and three bytes around them.
 -- Assumes nothing.
 use native.Mathlib.Omega.{arith}
+use lib.ListN.{length}
 use borrow.Author.Needs.{needs}
 use Rattle.writing.proofs.PartLaws.{pair-length}
 use Rattle.writing.proofs.lengths.pair_length.Statement.{statement}
@@ -18,27 +19,25 @@ width-requires c κs = omega (arith, c .shared-slice-known3 .given (c .before .b
 add-result : tie.Need-add-result
 add-result c = search needs
 
-mul-width : tie.Need-mul-width
-mul-width c = search needs
-
-shared-slice-read-width-2 : tie.Need-shared-slice-read-width-2
-shared-slice-read-width-2 c = search needs
-
-cast-width-2 : tie.Need-cast-width-2
-cast-width-2 c = omega (arith, c .shared-slice-known4 .given (c .before .before .before .before .before .args .atom))
-
-width-requires-2 : tie.Need-width-requires-2
-width-requires-2 c κs = omega (arith, c .shared-slice-known4 .given (c .before .before .before .before .before .args .atom))
+levels-length-requires : tie.Need-levels-length-requires
+levels-length-requires c κs = search needs
 
 add-result-2 : tie.Need-add-result-2
 add-result-2 c = search needs
 
 returns : tie.Need-returns
 returns c =
-    let a = c .before .before .before .before .before .before .args in
+    let start = c .before .before .before .before .before in
+    let a = start .args in
     record {
-      is = omega (arith, pair-length (a .values .now) (a .levels .now) (a .atom), c .before .before .width .ensures .0, c .width2 .ensures .0);
-      few = omega (arith, c .before .before .width .ensures .1, c .width2 .ensures .1);
+      is =
+          omega (
+            arith,
+            pair-length (length (a .values .now)) (a .groups) (a .values .now) (a .levels .now) (a .atom),
+            c .before .width .ensures .0,
+            c .levels-length .ensures .is,
+          );
+      few = omega (arith, c .before .width .ensures .1, c .levels-length .ensures .few, start .pre .2);
     }
 
 pub pair-length-spec : {M : Type 1} → statement M
@@ -49,9 +48,6 @@ pair-length-spec =
     cast-width
     width-requires
     add-result
-    mul-width
-    shared-slice-read-width-2
-    cast-width-2
-    width-requires-2
+    levels-length-requires
     add-result-2
     returns)

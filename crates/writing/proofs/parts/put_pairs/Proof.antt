@@ -10,10 +10,11 @@ use Rattle.writing.proofs.parts.put_pairs.Statement.{statement}
 use Rattle.writing.proofs.parts.put_pairs.Tie as tie
 
 abbrev Inv-loop : tie.InvT-loop
-Inv-loop text₀ at values levels next₀ atom₀ text next atom = (atom ≤ length values) × Joined text₀ at (pairPart values levels) atom next text
+Inv-loop text₀ at groups values levels next₀ atom₀ text next atom =
+    (atom ≤ length values) × Joined text₀ at (pairPart (length values) groups values levels) atom next text
 
 abbrev μ-loop : tie.MeasureT-loop
-μ-loop text₀ at values levels next₀ atom₀ text next atom = length values - atom
+μ-loop text₀ at groups values levels next₀ atom₀ text next atom = length values - atom
 
 loop-holds : tie.Need-loop-holds Inv-loop μ-loop
 loop-holds c = (omega arith, joined-start _ _ _)
@@ -21,7 +22,7 @@ loop-holds c = (omega arith, joined-start _ _ _)
 put-pair-requires : tie.Need-put-pair-requires Inv-loop μ-loop
 put-pair-requires c κs =
     let start = c .before .before .before .before .before .before in
-    ((omega arith, omega (arith, start .pre .0)), joined-fits _ _ _ _ _ _ _ (omega arith) (start .pre .1) (c .before .before .loop .inv .1))
+    ((omega arith, start .pre .0), joined-fits _ _ _ _ _ _ _ (omega arith) (start .pre .1) (c .before .before .loop .inv .1))
 
 add-atom : tie.Need-add-atom Inv-loop μ-loop
 add-atom c = omega arith

@@ -1,21 +1,28 @@
--- A loop over the parts of a form: some are read, and the rest are read where it has come to.
+-- A loop over the parts of a form or of a pair: some are read, and the rest are read where it has come to.
 -- Assumes nothing.
 use Prim.Native.Nat.{ℕ, _+_, _≤_}
 use mathlib.Core.Path.{_≡_, refl, sym, ap, _∙_}
-use mathlib.Core.Bool.{true, false}
+use mathlib.Core.Bool.{Bool, true, false, _&&_, and-true, and-assoc}
 use mathlib.Core.List.{List, [], _∷_, _++_, append-assoc, append-nil}
 use native.Mathlib.Omega.{arith}
 use lib.ListN.{length, drop, length-append}
 use lib.Seq.{drop-drop}
+use Rattle.wellfounded.specs.Lists.{all}
 use Rattle.format.specs.Forms.{space, closing}
 use Rattle.format.specs.Words.{wordAt}
 use Rattle.format.specs.Parse.{Reading, got, refused, andThen, parts}
 use Rattle.format.proofs.Pieces.{Inverse}
 use Rattle.format.proofs.Parts.{parts-more, parts-refused, parts-closed, parts-none}
 use Rattle.format.proofs.WordLaws.{started}
 use Rattle.items.proofs.ItemLaws.{GotAt}
 
 module _ {A : Type 0} where
+  -- One more part at the end of a list.
+  pub all-snoc : (p : A → Bool) (xs : List A) (x : A) → all p (xs ++ (x ∷ [])) ≡ (all p xs && p x)
+  unfolding all
+  all-snoc p [] x = and-true (p x)
+  all-snoc p (y ∷ ys) x = rw (all-snoc p ys x) (sym (and-assoc (p y) (all p ys) (p x)))
+
   -- Parts read before the others.
   unfoldable pub prefixed : List A → Reading (List A) → Reading (List A)
   prefixed xs (got ys rest) = got (xs ++ ys) rest
