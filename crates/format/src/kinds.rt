@@ -5,7 +5,7 @@ ghost use Rattle.format.specs.Words.{kind_at};
 use crate::words::word_at;
 
 // The kind of a form; `Unknown` where no form's word stands.
-#[derive(Drop)]
+#[derive(Clone, Copy)]
 pub enum Kind {
     Atoms,
     Rule,

@@ -30,7 +30,7 @@ pub const OPEN_STOOD: usize = 5;
 pub const CLAIM_STOOD: usize = 6;
 
 // The phase of the text, the number of atoms, and the entries counted for each table that grows from line to line.
-#[derive(Drop)]
+#[derive(Clone, Copy)]
 pub struct Reached {
     pub phase: usize,
     pub size: usize,
@@ -42,7 +42,7 @@ pub struct Reached {
 }
 
 // How many entries each lent table has.
-#[derive(Drop)]
+#[derive(Clone, Copy)]
 pub struct Space {
     pub rules: usize,
     pub literals: usize,

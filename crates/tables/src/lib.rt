@@ -14,14 +14,14 @@ pub mod totals;
 pub mod values;
 
 // Where a search found what it looks for.
-#[derive(Drop)]
+#[derive(Clone, Copy)]
 pub enum Found {
     At(usize),
     Nothing,
 }
 
 // Every reason to refuse. `number_of` gives the paper's number.
-#[derive(Drop)]
+#[derive(Clone, Copy)]
 pub enum Fault {
     Malformed,
     OutsideLimits,
@@ -47,7 +47,7 @@ pub enum Fault {
 }
 
 // What every call answers: accepted, or refused for a fault at a position.
-#[derive(Drop)]
+#[derive(Clone, Copy)]
 pub enum Verdict {
     Accepted,
     Refused(Fault, usize),
