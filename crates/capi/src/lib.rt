@@ -1,4 +1,6 @@
 // The calls for C. In C each slice is a pointer and a length, in this order; `include/battenplum.h` documents them.
+#![tactic(auto)]
+
 ghost use Rattle.std.specs.Prelude.{◌≡◌, ◌≤◌, length};
 ghost use Rattle.tables.specs.Limits.{max_position};
 ghost use Rattle.tables.specs.Faults.{position_of};

@@ -1,5 +1,7 @@
 // The program: reads a book's text from standard input and prints its report. Where the input cannot be read no report is
 // printed, and trouble with input or output is told on standard error.
+#![tactic(auto)]
+
 ghost use Rattle.std.specs.Prelude.{◌≤◌, length};
 
 use page::PAGE_SIZE;

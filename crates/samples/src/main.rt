@@ -1,4 +1,6 @@
 // Runs samples through the report, and through the check and the evaluator over lent tables.
+#![tactic(auto)]
+
 use claims::run_claims;
 use evaluated::run_evaluations;
 

@@ -1,4 +1,6 @@
 // How the sample programs print: verdicts, numbers, and slices of values and levels.
+#![tactic(auto)]
+
 use tables::{Verdict, number_of, position_of};
 
 // The sample's name, the verdict's number and its position.

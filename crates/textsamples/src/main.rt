@@ -1,4 +1,6 @@
 // Runs sample texts through the reader, into tables of full size and into small ones.
+#![tactic(auto)]
+
 mod built_texts;
 mod lent_tables;
 mod other_lengths;

@@ -1,0 +1,50 @@
+-- `founding::found_row` meets its contract: it marks nothing if the head is decided or marked, or if the body does not found it.
+use mathlib.Core.Path.{sym, ◌∙◌}
+use mathlib.Core.Logic.{⊎_elim}
+use native.Mathlib.Omega.{arith}
+use borrow.Author.Tests.{eqb-true, eqb-false}
+use Rattle.tables.specs.Rows.{rule_body}
+use Rattle.tables.proofs.MarkLaws.{look_decided, look_again, look_fails, look_marks}
+use Rattle.founding.specs.internal.Founding.{row_founds, found_row}
+use Rattle.founding.proofs.FoundingLaws.{unmarked_set}
+use Rattle.founding.proofs.found_row.Goals as goal
+
+pub bounds-values-head : goal.bounds-values-head
+bounds-values-head c = let pre = c.requires in omega (arith, pre.1.rows.heads _ pre.0)
+
+pub bounds-founded-head : goal.bounds-founded-head
+bounds-founded-head c = let pre = c.requires in omega (arith, pre.1.rows.heads _ pre.0)
+
+pub returns-then-value-lt2 : goal.returns-then-value-lt2
+unfolding found_row row_founds
+returns-then-value-lt2 c = let pre = c.requires in
+    let within = pre.1.rows.heads _ pre.0 in
+    let head = c.rule_head-head.ensures.is in (
+      ⊎_elim (λ w. look_decided _ _ _ _ head _ (omega arith) (omega (arith, w.taken))) (λ w. look_again _ _ _ _ head _ (eqb-true _ _ w.1.taken)) c.then-value-lt2.branch,
+      omega arith,
+    )
+
+pub body_founds-requires : goal.body_founds-requires
+body_founds-requires c = let pre = c.requires in
+    (record { within = omega (arith, pre.1.rows.within _ pre.0); known = pre.1.rows.known }, pre.1.room)
+
+pub bounds-founded-head-then-body_founds : goal.bounds-founded-head-then-body_founds
+bounds-founded-head-then-body_founds c = let pre = c.requires in omega (arith, pre.1.rows.heads _ pre.0)
+
+pub returns-then-body_founds : goal.returns-then-body_founds
+unfolding found_row row_founds rule_body
+returns-then-body_founds c = let pre = c.requires in
+    let within = pre.1.rows.heads _ pre.0 in
+    let head = c.rule_head-head.ensures.is in (
+      rw (← c.rule_start-start.ensures.is, ← c.rule_size-size.ensures.is)
+          (look_marks _ _ _ _ head _ (omega arith) (omega arith) (sym c.body_founds.ensures ∙ c.if-body_founds.true)),
+      unmarked_set _ _ (omega arith) (eqb-false _ _ c.if-mark-eq1.false-raw),
+    )
+
+pub returns : goal.returns
+unfolding found_row row_founds rule_body
+returns c = (
+  rw (← c.rule_start-start.ensures.is, ← c.rule_size-size.ensures.is)
+      (look_fails _ _ _ _ c.rule_head-head.ensures.is _ (sym c.body_founds.ensures ∙ c.if-body_founds.false)),
+  omega arith,
+)

@@ -1,0 +1,101 @@
+-- `indexed::evaluate_indexed` meets its contract: what is refused before the setting or for it leaves all slices alone; else the rules are followed, and
+-- the model's first fault is the verdict.
+use borrow.Author.Rules.{rules}
+use Rattle.tables.specs.Sound.{Tables, lent}
+use Rattle.indexed.specs.EvaluateIndexed.{IndexedSlices}
+use Rattle.indexed.proofs.IndexedLaws.{early_answer, followable, setting_answer, model_scannable, made_answer}
+use Rattle.indexed.proofs.evaluate_indexed.Goals as goal
+
+pub returns-in-Refused : goal.returns-in-Refused
+returns-in-Refused c =
+    let given : Tables =
+        let a = c.args in
+    lent a.atoms a.rules.now a.literals.now a.clauses.now a.loads.now a.load-literals.now a.minutes.now a.marks.now in
+    let slices : IndexedSlices =
+        let a = c.args in
+    record {
+      setting = a.open-values.now;
+      values = a.values.now;
+      levels = a.levels.now;
+      work = a.work.now;
+      starts = a.starts.now;
+      entries = a.entries.now;
+      counts = a.counts.now;
+    } in
+    early_answer (given) (slices) _ _ _ c.indexed_fault-verdict.ensures c.in-Refused.is
+
+pub follow-followed-requires : goal.follow-followed-requires
+unfolding lent
+follow-followed-requires c =
+    let given : Tables =
+        let a = c.args in
+    lent a.atoms a.rules.now a.literals.now a.clauses.now a.loads.now a.load-literals.now a.minutes.now a.marks.now in
+    let slices : IndexedSlices =
+        let a = c.args in
+    record {
+      setting = a.open-values.now;
+      values = a.values.now;
+      levels = a.levels.now;
+      work = a.work.now;
+      starts = a.starts.now;
+      entries = a.entries.now;
+      counts = a.counts.now;
+    } in
+    followable (given) (slices) _ c.indexed_fault-verdict.ensures c.in_default.is
+
+pub returns-in-Refused-stopped : goal.returns-in-Refused-stopped
+unfolding lent
+returns-in-Refused-stopped c =
+    let given : Tables =
+        let a = c.args in
+    lent a.atoms a.rules.now a.literals.now a.clauses.now a.loads.now a.load-literals.now a.minutes.now a.marks.now in
+    let slices : IndexedSlices =
+        let a = c.args in
+    record {
+      setting = a.open-values.now;
+      values = a.values.now;
+      levels = a.levels.now;
+      work = a.work.now;
+      starts = a.starts.now;
+      entries = a.entries.now;
+      counts = a.counts.now;
+    } in
+    setting_answer (given) (slices) _ c.indexed_fault-verdict.ensures c.in_default.is _ _ _ _ _ _ _ _ c.follow-followed.ensures _ _ c.in-Refused-stopped.is
+
+pub model_fault-verdict-requires : goal.model_fault-verdict-requires
+unfolding lent
+model_fault-verdict-requires c =
+    let given : Tables =
+        let a = c.args in
+    lent a.atoms a.rules.now a.literals.now a.clauses.now a.loads.now a.load-literals.now a.minutes.now a.marks.now in
+    let slices : IndexedSlices =
+        let a = c.args in
+    record {
+      setting = a.open-values.now;
+      values = a.values.now;
+      levels = a.levels.now;
+      work = a.work.now;
+      starts = a.starts.now;
+      entries = a.entries.now;
+      counts = a.counts.now;
+    } in
+    model_scannable (given) (slices) _ c.indexed_fault-verdict.ensures c.in_default.is _ _ _ _ _ _ _ _ c.follow-followed.ensures c.in_default-stopped.is
+
+pub returns : goal.returns
+unfolding lent
+returns c =
+    let given : Tables =
+        let a = c.args in
+    lent a.atoms a.rules.now a.literals.now a.clauses.now a.loads.now a.load-literals.now a.minutes.now a.marks.now in
+    let slices : IndexedSlices =
+        let a = c.args in
+    record {
+      setting = a.open-values.now;
+      values = a.values.now;
+      levels = a.levels.now;
+      work = a.work.now;
+      starts = a.starts.now;
+      entries = a.entries.now;
+      counts = a.counts.now;
+    } in
+    made_answer (given) (slices) _ c.indexed_fault-verdict.ensures c.in_default.is _ _ _ _ _ _ _ _ c.follow-followed.ensures c.in_default-stopped.is _ c.model_fault-verdict.ensures

@@ -1,0 +1,41 @@
+-- `rounds::rounds::fire_row` meets its contract: it marks nothing if the head is decided or marked, or if the body is not all true.
+use mathlib.Core.Path.{sym, ◌∙◌}
+use mathlib.Core.Logic.{⊎_elim}
+use native.Mathlib.Omega.{arith}
+use borrow.Author.Tests.{eqb-true}
+use Rattle.tables.specs.Rows.{rule_body}
+use Rattle.tables.proofs.MarkLaws.{look_decided, look_again, look_fails, look_marks}
+use Rattle.rounds.specs.internal.Firing.{row_fires}
+use Rattle.rounds.proofs.rounds.fire_row.Goals as goal
+
+pub bounds-values-head : goal.bounds-values-head
+bounds-values-head c = let pre = c.requires in omega (arith, pre.1.rows.heads _ pre.0)
+
+pub bounds-firing-head : goal.bounds-firing-head
+bounds-firing-head c = let pre = c.requires in omega (arith, pre.1.rows.heads _ pre.0)
+
+pub returns-then-value-lt2 : goal.returns-then-value-lt2
+unfolding row_fires
+returns-then-value-lt2 c = let pre = c.requires in
+    let within = pre.1.rows.heads _ pre.0 in
+    let head = c.rule_head-head.ensures.is in
+    ⊎_elim (λ w. look_decided _ _ _ _ head _ (omega arith) (omega (arith, w.taken))) (λ w. look_again _ _ _ _ head _ (eqb-true _ _ w.1.taken)) c.then-value-lt2.branch
+
+pub body_true-requires : goal.body_true-requires
+body_true-requires c = let pre = c.requires in
+    record { within = omega (arith, pre.1.rows.within _ pre.0); known = pre.1.rows.known }
+
+pub bounds-firing-head-then-body_true : goal.bounds-firing-head-then-body_true
+bounds-firing-head-then-body_true c = let pre = c.requires in omega (arith, pre.1.rows.heads _ pre.0)
+
+pub returns-then-body_true : goal.returns-then-body_true
+unfolding row_fires rule_body
+returns-then-body_true c = let pre = c.requires in
+    let within = pre.1.rows.heads _ pre.0 in
+    rw (← c.rule_start-start.ensures.is, ← c.rule_size-size.ensures.is)
+    (look_marks _ _ _ _ c.rule_head-head.ensures.is _ (omega arith) (omega arith) (sym c.body_true.ensures ∙ c.if-body_true.true))
+
+pub returns-else-body_true : goal.returns-else-body_true
+unfolding row_fires rule_body
+returns-else-body_true c = rw (← c.rule_start-start.ensures.is, ← c.rule_size-size.ensures.is)
+    (look_fails _ _ _ _ c.rule_head-head.ensures.is _ (sym c.body_true.ensures ∙ c.if-body_true.false))

@@ -1,0 +1,24 @@
+-- `writing::lengths::pair_length` meets its contract: the value, the levels, and three bytes around them.
+use native.Mathlib.Omega.{arith}
+use lib.ListN.{length}
+use Rattle.writing.proofs.PartLaws.{pair_length}
+use Rattle.writing.proofs.lengths.pair_length.Goals as goal
+
+pub overflow_cast-values : goal.overflow_cast-values
+overflow_cast-values c = omega (arith, c.shared_slice_known-3-1.given c.args.atom)
+
+pub width-requires : goal.width-requires
+width-requires c = omega (arith, c.shared_slice_known-3-1.given c.args.atom)
+
+pub returns : goal.returns
+returns c = let a = c.args in
+    record {
+      is =
+          omega (
+            arith,
+            pair_length (length a.values.now) a.groups a.values.now a.levels.now a.atom,
+            c.width.ensures.0,
+            c.levels_length.ensures.is,
+          );
+      few = omega (arith, c.width.ensures.1, c.levels_length.ensures.few, c.requires.2);
+    }
