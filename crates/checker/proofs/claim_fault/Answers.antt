@@ -13,7 +13,7 @@ use Rattle.checker.proofs.claim_fault.Goals as goal
 
 pub returns-in-At : goal.returns-in-At
 unfolding lent mark_test
-returns-in-At c = found_refuses _ _ _ _ _ refl (rw c.requires.groups_value.1.1.1 at c.not_held_atom.ensures) c.in-At.is
+returns-in-At c = found_refuses _ _ _ _ _ refl (rw c.requires.marks_len at c.not_held_atom.ensures) c.in-At.is
 
 pub returns-in-At-not_held_atom : goal.returns-in-At-not_held_atom
 unfolding claim_tests lent mark_test value_test
@@ -22,7 +22,7 @@ returns-in-At-not_held_atom c =
         let a = c.args in
     lent (length a.values.now) a.rules.now a.literals.now a.clauses.now a.loads.now a.load-literals.now a.minutes.now a.marks.now in
     let marks_fit : let tests = claim_tests (given) c.args.values.now c.args.levels.now in first_fault (mark_test (given) ∷ tests) ≡ first_fault tests =
-        nothing_leaves _ _ _ _ refl (rw c.requires.groups_value.1.1.1 at c.not_held_atom.ensures) c.in_default.is in
+        nothing_leaves _ _ _ _ refl (rw c.requires.marks_len at c.not_held_atom.ensures) c.in_default.is in
     found_refuses _ _ _ _ _ (marks_fit) c.not_held_atom-2.ensures c.in-At-not_held_atom.is
 
 pub returns-in-Refused : goal.returns-in-Refused
@@ -32,10 +32,10 @@ returns-in-Refused c =
         let a = c.args in
     lent (length a.values.now) a.rules.now a.literals.now a.clauses.now a.loads.now a.load-literals.now a.minutes.now a.marks.now in
     let marks_fit : let tests = claim_tests (given) c.args.values.now c.args.levels.now in first_fault (mark_test (given) ∷ tests) ≡ first_fault tests =
-        nothing_leaves _ _ _ _ refl (rw c.requires.groups_value.1.1.1 at c.not_held_atom.ensures) c.in_default.is in
+        nothing_leaves _ _ _ _ refl (rw c.requires.marks_len at c.not_held_atom.ensures) c.in_default.is in
     let values-fit : let t = given in let a = c.args in first_fault (mark_test t ∷ claim_tests t a.values.now a.levels.now) ≡ first_fault (level_tests (group_of t) t.atoms (group_count t.rules) a.rules.now a.literals.now a.values.now a.levels.now ++ satisfaction_tests t a.values.now) =
         nothing_leaves _ _ _ _ (marks_fit) c.not_held_atom-2.ensures c.in_default-not_held_atom.is in
-    verdict_refuses _ _ _ _ _ _ (values-fit) (rw c.requires.groups_value.0 at c.group_fault-verdict.ensures) c.in-Refused.is
+    verdict_refuses _ _ _ _ _ _ (values-fit) (rw c.requires.groups_value at c.group_fault-verdict.ensures) c.in-Refused.is
 
 pub returns : goal.returns
 unfolding claim_tests group_of lent mark_test satisfaction_tests value_test
@@ -44,8 +44,8 @@ returns c =
         let a = c.args in
     lent (length a.values.now) a.rules.now a.literals.now a.clauses.now a.loads.now a.load-literals.now a.minutes.now a.marks.now in
     let marks_fit : let tests = claim_tests (given) c.args.values.now c.args.levels.now in first_fault (mark_test (given) ∷ tests) ≡ first_fault tests =
-        nothing_leaves _ _ _ _ refl (rw c.requires.groups_value.1.1.1 at c.not_held_atom.ensures) c.in_default.is in
+        nothing_leaves _ _ _ _ refl (rw c.requires.marks_len at c.not_held_atom.ensures) c.in_default.is in
     let values-fit : let t = given in let a = c.args in first_fault (mark_test t ∷ claim_tests t a.values.now a.levels.now) ≡ first_fault (level_tests (group_of t) t.atoms (group_count t.rules) a.rules.now a.literals.now a.values.now a.levels.now ++ satisfaction_tests t a.values.now) =
         nothing_leaves _ _ _ _ (marks_fit) c.not_held_atom-2.ensures c.in_default-not_held_atom.is in
     c.satisfaction_fault.ensures
-    ∙ sym (verdict_leaves _ _ _ _ (values-fit) (rw c.requires.groups_value.0 at c.group_fault-verdict.ensures) c.in_default-verdict.is)
+    ∙ sym (verdict_leaves _ _ _ _ (values-fit) (rw c.requires.groups_value at c.group_fault-verdict.ensures) c.in_default-verdict.is)

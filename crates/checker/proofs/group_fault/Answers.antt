@@ -14,7 +14,10 @@ use Rattle.checker.proofs.GroupLevels.{level_turns, groups_ranged, groups_heads}
 use Rattle.checker.proofs.group_fault.Goals as goal
 
 pub level_fault-ranged-requires : goal.level_fault-ranged-requires
-level_fault-ranged-requires c = record { markable = record { few = rw c.requires.marks_len c.requires.groups_levelled.few; heads = λ row l. rw c.requires.marks_len (c.requires.groups_levelled.rows.heads row l) }; groups_bound = (c.requires.groups_levelled.few_groups, rw c.requires.marks_len c.requires.groups_levelled.long) }
+level_fault-ranged-requires c = (
+      record { few = rw c.requires.marks_len c.requires.groups_levelled.few; heads = λ row l. rw c.requires.marks_len (c.requires.groups_levelled.rows.heads row l) },
+      (c.requires.groups_levelled.few_groups, rw c.requires.marks_len c.requires.groups_levelled.long),
+    )
 
 pub returns-in-Refused : goal.returns-in-Refused
 unfolding level_tests

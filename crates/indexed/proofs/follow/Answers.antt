@@ -7,7 +7,7 @@ use Rattle.indexed.proofs.IndexedLaws.{heads_fit, marks_fit, setting_fits, setti
 use Rattle.indexed.proofs.follow.Goals as goal
 
 pub mark_defined-requires : goal.mark_defined-requires
-mark_defined-requires c = (heads_fit c.requires, (marks_fit c.requires, fresh_unmarked max_atoms))
+mark_defined-requires c = record { by_index = heads_fit c.requires; marks_in_bounds = marks_fit c.requires; unmarked = fresh_unmarked max_atoms }
 
 pub bad_setting-requires : goal.bad_setting-requires
 bad_setting-requires c = setting_fits c.requires c.mark_defined.ensures

@@ -29,5 +29,5 @@ bounds-loads-row c = omega arith
 pub returns : goal.returns
 returns c =
     let fits : SFits w32 (get_or c.args.loads.now (c.args.row * 4 + 1) (pos 0)) =
-        record { sfits = c.result-1.given } in
+    record { sfits = c.result-1.given } in
     rw (to_z-of_z (fits), row_high)

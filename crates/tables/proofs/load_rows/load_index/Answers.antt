@@ -14,11 +14,11 @@ returns-then-index-lt0 c = let a = c.args in
 pub overflow_cast-result : goal.overflow_cast-result
 overflow_cast-result c =
     let some : let a = c.args in let z = get_or a.loads.now a.place (pos 0) in IsIndex z (to_z w32 (of_z w32 z)) =
-        let a = c.args in index_some (get_or a.loads.now a.place (pos 0)) c.index-1.given c.if-index-lt0.false in
+    let a = c.args in index_some (get_or a.loads.now a.place (pos 0)) c.index-1.given c.if-index-lt0.false in
     (some).casts
 
 pub returns : goal.returns
 returns c =
     let some : let a = c.args in let z = get_or a.loads.now a.place (pos 0) in IsIndex z (to_z w32 (of_z w32 z)) =
-        let a = c.args in index_some (get_or a.loads.now a.place (pos 0)) c.index-1.given c.if-index-lt0.false in
+    let a = c.args in index_some (get_or a.loads.now a.place (pos 0)) c.index-1.given c.if-index-lt0.false in
     record { is = (some).is; small = (some).small }

@@ -25,5 +25,5 @@ bounds-loads-row c = omega arith
 pub returns : goal.returns
 returns c =
     let fits : SFits w32 (get_or c.args.loads.now (c.args.row * 4) (pos 0)) =
-        record { sfits = c.result-1.given } in
+    record { sfits = c.result-1.given } in
     rw (to_z-of_z (fits), row_low)

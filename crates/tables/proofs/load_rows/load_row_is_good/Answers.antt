@@ -40,11 +40,11 @@ bound_is_good-requires-2 c = omega arith
 pub returns : goal.returns
 unfolding good_load_row load_entry load_high load_low
 returns c = rw (
-      add-zero,
-      c.load_size.ensures.is,
-      c.load_start.ensures.is,
-      c.is_index.ensures,
-      c.is_index-2.ensures,
-      c.bound_is_good.ensures,
-      c.bound_is_good-2.ensures,
-    )
+  add-zero,
+  c.load_size.ensures.is,
+  c.load_start.ensures.is,
+  c.is_index.ensures,
+  c.is_index-2.ensures,
+  c.bound_is_good.ensures,
+  c.bound_is_good-2.ensures,
+)

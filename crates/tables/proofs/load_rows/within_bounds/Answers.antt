@@ -41,7 +41,7 @@ bounds-loads-row-2 c = omega arith
 pub returns : goal.returns
 returns c =
     let low_fits : SFits w32 (get_or c.args.loads.now (c.args.row * 4) (pos 0)) =
-        record { sfits = c.low-1.given } in
+    record { sfits = c.low-1.given } in
     let high_fits : SFits w32 (get_or c.args.loads.now (c.args.row * 4 + 1) (pos 0)) =
-        record { sfits = c.high-1.given } in
+    record { sfits = c.high-1.given } in
     rw (to_z-of_z (low_fits), to_z-of_z (high_fits), to_z-of_z c.ranges.sum, row_low, row_high)

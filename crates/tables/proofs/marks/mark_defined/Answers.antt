@@ -10,4 +10,4 @@ mark_heads-requires c = λ row l.
 
 pub returns : goal.returns
 returns c = defined_marks _ c.mark_declared.ensures c.mark_heads.ensures
-    c.requires.marks_in_bounds.0
+    c.requires.marks_in_bounds

@@ -6,7 +6,6 @@ use Rattle.tables.proofs.refusals.first_refusal.Goals as goal
 -- Each answer is found among all three, so that none relies on the order in which the tests stand.
 ruleset refusals = (mark_refuses, unfit_refuses, neither_refuses)
 
-
 pub returns-in-At : goal.returns-in-At
 returns-in-At c = search (rules, refusals)
 

@@ -7,17 +7,17 @@ use Rattle.writing.proofs.book.put_rows.Goals as goal
 pub put_rules-ruled-requires : goal.put_rules-ruled-requires
 put_rules-ruled-requires c = let a = c.args in
     let long = parts_length (rows_parts a.rules.now a.literals.now a.clauses.now a.loads.now a.load-literals.now a.minutes.now) in
-    (c.requires.rules_lie, omega (arith, c.requires.clauses_lie.1.1))
+    (c.requires.rules_lie, omega (arith, c.requires.minutes_in_bounds))
 
 pub put_clauses-claused-requires : goal.put_clauses-claused-requires
 put_clauses-claused-requires c = let a = c.args in
     let long = parts_length (rows_parts a.rules.now a.literals.now a.clauses.now a.loads.now a.load-literals.now a.minutes.now) in
-    (c.requires.clauses_lie.0, omega (arith, c.requires.clauses_lie.1.1, c.put_rules-ruled.ensures.answered))
+    (c.requires.clauses_lie, omega (arith, c.requires.minutes_in_bounds, c.put_rules-ruled.ensures.answered))
 
 pub put_loads-requires : goal.put_loads-requires
 put_loads-requires c = let a = c.args in
     let long = parts_length (rows_parts a.rules.now a.literals.now a.clauses.now a.loads.now a.load-literals.now a.minutes.now) in
-    (c.requires.clauses_lie.1.0, omega (arith, c.requires.clauses_lie.1.1, c.put_rules-ruled.ensures.answered, c.put_clauses-claused.ensures.answered))
+    (c.requires.loads_lie, omega (arith, c.requires.minutes_in_bounds, c.put_rules-ruled.ensures.answered, c.put_clauses-claused.ensures.answered))
 
 pub returns : goal.returns
 returns c = puts_parts (rows_parts _ _ _ _ _ _) c.put_rules-ruled.ensures c.put_clauses-claused.ensures c.put_loads.ensures

@@ -16,7 +16,7 @@ defined_length-marked-requires c = omega (arith, c.requires.puttable.marked, c.r
 
 pub rows_length-listed-requires : goal.rows_length-listed-requires
 unfolding lent
-rows_length-listed-requires c = (c.requires.puttable.rules, (c.requires.puttable.clauses, (c.requires.puttable.loads, c.requires.short)))
+rows_length-listed-requires c = record { rules_lie = c.requires.puttable.rules; clauses_lie = c.requires.puttable.clauses; loads_lie = c.requires.puttable.loads; short = c.requires.short }
 
 pub claim_length-requires : goal.claim_length-requires
 unfolding lent
