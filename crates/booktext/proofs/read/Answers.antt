@@ -1,4 +1,5 @@
 -- `booktext::read` meets its contract: a text is judged first, and one that passes is walked over once more and fills the tables.
+use borrow.Author.Rules.{rules}
 use Rattle.judging.specs.LentTables.{space_with}
 use Rattle.forms.specs.Contents.{lent_tables}
 use Rattle.booktext.specs.Answers.{space_of}
@@ -22,31 +23,31 @@ pub answer_of-requires : goal.answer_of-requires
 answer_of-requires c = tt
 
 pub shape_of-rules : goal.shape_of-rules
-shape_of-rules c = c.walk.auto.literals.1.0
+shape_of-rules c = c.walk.auto.rules
 
 pub shape_of-literals : goal.shape_of-literals
-shape_of-literals c = c.walk.auto.literals.1.1.0
+shape_of-literals c = c.walk.auto.literals
 
 pub shape_of-clauses : goal.shape_of-clauses
-shape_of-clauses c = c.walk.auto.literals.1.1.1.0
+shape_of-clauses c = c.walk.auto.clauses
 
 pub shape_of-loads : goal.shape_of-loads
-shape_of-loads c = c.walk.auto.literals.1.1.1.1.0
+shape_of-loads c = c.walk.auto.loads
 
 pub shape_of-load_literals : goal.shape_of-load_literals
-shape_of-load_literals c = c.walk.auto.literals.1.1.1.1.1.0
+shape_of-load_literals c = c.walk.auto.load_literals
 
 pub shape_of-minutes : goal.shape_of-minutes
-shape_of-minutes c = c.walk.auto.literals.1.1.1.1.1.1.0
+shape_of-minutes c = c.walk.auto.minutes
 
 pub shape_of-marks : goal.shape_of-marks
-shape_of-marks c = c.walk.auto.literals.1.1.1.1.1.1.1.0
+shape_of-marks c = c.walk.auto.marks
 
 pub shape_of-values : goal.shape_of-values
-shape_of-values c = c.walk.auto.literals.1.1.1.1.1.1.1.1.0
+shape_of-values c = c.walk.auto.values
 
 pub shape_of-levels : goal.shape_of-levels
-shape_of-levels c = c.walk.auto.literals.1.1.1.1.1.1.1.1.1.0
+shape_of-levels c = c.walk.auto.levels
 
 pub returns : goal.returns
 unfolding lent_tables space_of space_with

@@ -8,5 +8,4 @@ pub pack-requires : goal.pack-requires
 pack-requires c = rw c.index.ensures.answered (index_position _ _ _)
 
 pub returns : goal.returns
-returns c = let built = c.index.ensures in
-    record { answered = c.pack.ensures ∙ ap packed built.answered; starts_built = built.starts_built; entries_built = built.entries_built }
+returns c = record { answered = c.pack.ensures ∙ ap packed c.index.ensures.answered; starts_built = c.index.ensures.starts_built; entries_built = c.index.ensures.entries_built }

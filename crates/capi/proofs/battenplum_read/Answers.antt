@@ -20,31 +20,31 @@ pub pack-requires : goal.pack-requires
 pack-requires c = read_position c.read-book.ensures
 
 pub shape_of-rules : goal.shape_of-rules
-shape_of-rules c = c.read-book.auto.literals.0
+shape_of-rules c = c.read-book.auto.rules
 
 pub shape_of-literals : goal.shape_of-literals
-shape_of-literals c = c.read-book.auto.literals.1.0
+shape_of-literals c = c.read-book.auto.literals
 
 pub shape_of-clauses : goal.shape_of-clauses
-shape_of-clauses c = c.read-book.auto.literals.1.1.0
+shape_of-clauses c = c.read-book.auto.clauses
 
 pub shape_of-loads : goal.shape_of-loads
-shape_of-loads c = c.read-book.auto.literals.1.1.1.0
+shape_of-loads c = c.read-book.auto.loads
 
 pub shape_of-load_literals : goal.shape_of-load_literals
-shape_of-load_literals c = c.read-book.auto.literals.1.1.1.1.0
+shape_of-load_literals c = c.read-book.auto.load_literals
 
 pub shape_of-minutes : goal.shape_of-minutes
-shape_of-minutes c = c.read-book.auto.literals.1.1.1.1.1.0
+shape_of-minutes c = c.read-book.auto.minutes
 
 pub shape_of-marks : goal.shape_of-marks
-shape_of-marks c = c.read-book.auto.literals.1.1.1.1.1.1.0
+shape_of-marks c = c.read-book.auto.marks
 
 pub shape_of-values : goal.shape_of-values
-shape_of-values c = c.read-book.auto.literals.1.1.1.1.1.1.1.0
+shape_of-values c = c.read-book.auto.values
 
 pub shape_of-levels : goal.shape_of-levels
-shape_of-levels c = c.read-book.auto.literals.1.1.1.1.1.1.1.1.0
+shape_of-levels c = c.read-book.auto.levels
 
 pub shape_of-answer : goal.shape_of-answer
 shape_of-answer c = c.put_counts.auto.answer

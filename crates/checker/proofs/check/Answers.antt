@@ -20,17 +20,15 @@ pub returns-in-Refused : goal.returns-in-Refused
 unfolding check_of check_tests
 returns-in-Refused c =
     let given : Tables =
-        let a = c.args in
-    lent a.atoms a.rules.now a.literals.now a.clauses.now a.loads.now a.load-literals.now a.minutes.now a.marks.now in
+        lent c.args.atoms c.args.rules.now c.args.literals.now c.args.clauses.now c.args.loads.now c.args.load_literals.now c.args.minutes.now c.args.marks.now in
     verdict_refuses _ (table_tests (given)) _ _ _ _ (ap first_fault (lent_order (given) _ _)) (c.table_fault-verdict.ensures c.args.marks.now) c.in-Refused.is
 
 pub returns-then-values-atoms : goal.returns-then-values-atoms
 unfolding check_of check_tests lent
 returns-then-values-atoms c =
     let given : Tables =
-        let a = c.args in
-    lent a.atoms a.rules.now a.literals.now a.clauses.now a.loads.now a.load-literals.now a.minutes.now a.marks.now in
-    let tables-fit : let t = given in let a = c.args in check_of t a.values.now a.levels.now ≡ first_fault (slice_test (claim_slices t a.values.now a.levels.now) ∷ mark_count_test t ∷ mark_test t ∷ claim_tests t a.values.now a.levels.now) =
+        lent c.args.atoms c.args.rules.now c.args.literals.now c.args.clauses.now c.args.loads.now c.args.load_literals.now c.args.minutes.now c.args.marks.now in
+    let tables-fit : let t = given in check_of t c.args.values.now c.args.levels.now ≡ first_fault (slice_test (claim_slices t c.args.values.now c.args.levels.now) ∷ mark_count_test t ∷ mark_test t ∷ claim_tests t c.args.values.now c.args.levels.now) =
         verdict_leaves _ (table_tests (given)) _ _ (ap first_fault (lent_order (given) _ _)) (c.table_fault-verdict.ensures c.args.marks.now) c.in_default.is in
     sym (tables-fit ∙ slice_refuses _ _ _ (Memᴰ.head refl) c.if-values-atoms.true)
 
@@ -38,8 +36,7 @@ pub overflow_mul-groups : goal.overflow_mul-groups
 unfolding lent
 overflow_mul-groups c =
     let given : Tables =
-        let a = c.args in
-    lent a.atoms a.rules.now a.literals.now a.clauses.now a.loads.now a.load-literals.now a.minutes.now a.marks.now in
+        lent c.args.atoms c.args.rules.now c.args.literals.now c.args.clauses.now c.args.loads.now c.args.load_literals.now c.args.minutes.now c.args.marks.now in
     let few_atoms_lem : c.args.atoms ≤ max_atoms =
         (sound_sizes (given) (accepted_absent (table_tests (given)) (rw (← c.table_fault-verdict.ensures c.args.marks.now) c.in_default.is))).few_atoms in
     omega (arith, mul-le-mul c.group_count-groups.ensures.1 (few_atoms_lem))
@@ -48,25 +45,23 @@ pub returns-then-levels-groups : goal.returns-then-levels-groups
 unfolding check_of check_tests lent
 returns-then-levels-groups c =
     let given : Tables =
-        let a = c.args in
-    lent a.atoms a.rules.now a.literals.now a.clauses.now a.loads.now a.load-literals.now a.minutes.now a.marks.now in
-    let tables-fit : let t = given in let a = c.args in check_of t a.values.now a.levels.now ≡ first_fault (slice_test (claim_slices t a.values.now a.levels.now) ∷ mark_count_test t ∷ mark_test t ∷ claim_tests t a.values.now a.levels.now) =
+        lent c.args.atoms c.args.rules.now c.args.literals.now c.args.clauses.now c.args.loads.now c.args.load_literals.now c.args.minutes.now c.args.marks.now in
+    let tables-fit : let t = given in check_of t c.args.values.now c.args.levels.now ≡ first_fault (slice_test (claim_slices t c.args.values.now c.args.levels.now) ∷ mark_count_test t ∷ mark_test t ∷ claim_tests t c.args.values.now c.args.levels.now) =
         verdict_leaves _ (table_tests (given)) _ _ (ap first_fault (lent_order (given) _ _)) (c.table_fault-verdict.ensures c.args.marks.now) c.in_default.is in
-    let levels-many : let a = c.args in c.group_count-groups.result * a.atoms ≡ group_count a.rules.now * a.atoms =
-        let a = c.args in ap (λ (groups : ℕ). groups * a.atoms) c.group_count-groups.ensures.0 in
+    let levels-many : c.group_count-groups.result * c.args.atoms ≡ group_count c.args.rules.now * c.args.atoms =
+        ap (λ (groups : ℕ). groups * c.args.atoms) c.group_count-groups.ensures.0 in
     sym (tables-fit ∙ slice_refuses _ _ _ (Memᴰ.tail (Memᴰ.head refl)) (λ e. c.if-levels-groups.true (e ∙ sym (levels-many))))
 
 pub returns-then-marks-atoms : goal.returns-then-marks-atoms
 unfolding check_of check_tests lent
 returns-then-marks-atoms c =
     let given : Tables =
-        let a = c.args in
-    lent a.atoms a.rules.now a.literals.now a.clauses.now a.loads.now a.load-literals.now a.minutes.now a.marks.now in
-    let tables-fit : let t = given in let a = c.args in check_of t a.values.now a.levels.now ≡ first_fault (slice_test (claim_slices t a.values.now a.levels.now) ∷ mark_count_test t ∷ mark_test t ∷ claim_tests t a.values.now a.levels.now) =
+        lent c.args.atoms c.args.rules.now c.args.literals.now c.args.clauses.now c.args.loads.now c.args.load_literals.now c.args.minutes.now c.args.marks.now in
+    let tables-fit : let t = given in check_of t c.args.values.now c.args.levels.now ≡ first_fault (slice_test (claim_slices t c.args.values.now c.args.levels.now) ∷ mark_count_test t ∷ mark_test t ∷ claim_tests t c.args.values.now c.args.levels.now) =
         verdict_leaves _ (table_tests (given)) _ _ (ap first_fault (lent_order (given) _ _)) (c.table_fault-verdict.ensures c.args.marks.now) c.in_default.is in
-    let levels-many : let a = c.args in c.group_count-groups.result * a.atoms ≡ group_count a.rules.now * a.atoms =
-        let a = c.args in ap (λ (groups : ℕ). groups * a.atoms) c.group_count-groups.ensures.0 in
-    let slices_fit : let t = given in let a = c.args in check_of t a.values.now a.levels.now ≡ first_fault (mark_count_test t ∷ mark_test t ∷ claim_tests t a.values.now a.levels.now) =
+    let levels-many : c.group_count-groups.result * c.args.atoms ≡ group_count c.args.rules.now * c.args.atoms =
+        ap (λ (groups : ℕ). groups * c.args.atoms) c.group_count-groups.ensures.0 in
+    let slices_fit : let t = given in check_of t c.args.values.now c.args.levels.now ≡ first_fault (mark_count_test t ∷ mark_test t ∷ claim_tests t c.args.values.now c.args.levels.now) =
         tables-fit ∙ slice_leaves _ _ (sized_more c.if-values-atoms.false (sized_more (c.if-levels-groups.false ∙ levels-many) sized_none)) in
     sym (slices_fit ∙ marks_refuse _ _ c.if-marks-atoms.true)
 
@@ -74,8 +69,7 @@ pub claim_fault-requires : goal.claim_fault-requires
 unfolding lent
 claim_fault-requires c =
     let given : Tables =
-        let a = c.args in
-    lent a.atoms a.rules.now a.literals.now a.clauses.now a.loads.now a.load-literals.now a.minutes.now a.marks.now in
+        lent c.args.atoms c.args.rules.now c.args.literals.now c.args.clauses.now c.args.loads.now c.args.load_literals.now c.args.minutes.now c.args.marks.now in
     let none = accepted_absent (table_tests (given)) (rw (← c.table_fault-verdict.ensures c.args.marks.now) c.in_default.is) in
     let ready = claim_ready (given) _ _ _ none c.if-values-atoms.false c.group_count-groups.ensures.1 c.if-levels-groups.false in
     (ready.0, (c.group_count-groups.ensures.0, (ready.1, (ready.2, c.if-marks-atoms.false ∙ sym c.if-values-atoms.false))))
@@ -84,12 +78,11 @@ pub returns : goal.returns
 unfolding check_of check_tests lent
 returns c =
     let given : Tables =
-        let a = c.args in
-    lent a.atoms a.rules.now a.literals.now a.clauses.now a.loads.now a.load-literals.now a.minutes.now a.marks.now in
-    let tables-fit : let t = given in let a = c.args in check_of t a.values.now a.levels.now ≡ first_fault (slice_test (claim_slices t a.values.now a.levels.now) ∷ mark_count_test t ∷ mark_test t ∷ claim_tests t a.values.now a.levels.now) =
+        lent c.args.atoms c.args.rules.now c.args.literals.now c.args.clauses.now c.args.loads.now c.args.load_literals.now c.args.minutes.now c.args.marks.now in
+    let tables-fit : let t = given in check_of t c.args.values.now c.args.levels.now ≡ first_fault (slice_test (claim_slices t c.args.values.now c.args.levels.now) ∷ mark_count_test t ∷ mark_test t ∷ claim_tests t c.args.values.now c.args.levels.now) =
         verdict_leaves _ (table_tests (given)) _ _ (ap first_fault (lent_order (given) _ _)) (c.table_fault-verdict.ensures c.args.marks.now) c.in_default.is in
-    let levels-many : let a = c.args in c.group_count-groups.result * a.atoms ≡ group_count a.rules.now * a.atoms =
-        let a = c.args in ap (λ (groups : ℕ). groups * a.atoms) c.group_count-groups.ensures.0 in
-    let slices_fit : let t = given in let a = c.args in check_of t a.values.now a.levels.now ≡ first_fault (mark_count_test t ∷ mark_test t ∷ claim_tests t a.values.now a.levels.now) =
+    let levels-many : c.group_count-groups.result * c.args.atoms ≡ group_count c.args.rules.now * c.args.atoms =
+        ap (λ (groups : ℕ). groups * c.args.atoms) c.group_count-groups.ensures.0 in
+    let slices_fit : let t = given in check_of t c.args.values.now c.args.levels.now ≡ first_fault (mark_count_test t ∷ mark_test t ∷ claim_tests t c.args.values.now c.args.levels.now) =
         tables-fit ∙ slice_leaves _ _ (sized_more c.if-values-atoms.false (sized_more (c.if-levels-groups.false ∙ levels-many) sized_none)) in
     rw c.if-values-atoms.false at c.claim_fault.ensures ∙ sym (slices_fit ∙ marks_leave _ _ c.if-marks-atoms.false)

@@ -5,5 +5,5 @@ use Rattle.cli.proofs.main.Goals as goal
 
 pub slice_bounds-write_all-end : goal.slice_bounds-write_all-end
 slice_bounds-write_all-end c = let short = report_fits c.report-printed.ensures in
-    let long = c.report-printed.auto.1.0 in
+    let long = c.report-printed.auto.page in
     search rules

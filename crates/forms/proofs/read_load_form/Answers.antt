@@ -28,15 +28,15 @@ returns-then-not-byte_at c = load_unspaced _ _ (sym c.byte_at.ensures ∙ c.if-n
 
 pub returns-in_default : goal.returns-in_default
 returns-in_default c =
-    let spaced : let a = c.args in word_at a.text.now a.at (32 ∷ []) ≡ true =
+    let spaced : word_at c.args.text.now c.args.at (32 ∷ []) ≡ true =
         sym c.byte_at.ensures ∙ c.if-not-byte_at.false in
     load_lowless _ _ (spaced) (sym c.read_signed.ensures ∙ c.in_default.is)
 
 pub returns-then-not-byte_at-2 : goal.returns-then-not-byte_at-2
 returns-then-not-byte_at-2 c =
-    let spaced : let a = c.args in word_at a.text.now a.at (32 ∷ []) ≡ true =
+    let spaced : word_at c.args.text.now c.args.at (32 ∷ []) ≡ true =
         sym c.byte_at.ensures ∙ c.if-not-byte_at.false in
-    let lower : let a = c.args in let v = c.low-1.given.0 in signed_at a.text.now (a.at + 1) ≡ Whole v.0 v.1.0 =
+    let lower : let v = c.low-1.given.0 in signed_at c.args.text.now (c.args.at + 1) ≡ Whole v.0 v.1.0 =
         sym c.read_signed.ensures ∙ c.in-Whole.is in
     load_one_bound _ _ (spaced) (lower) (sym c.byte_at-2.ensures ∙ c.if-not-byte_at-2.true)
 
@@ -48,9 +48,9 @@ overflow_add-after c =
 
 pub returns-in_default-read_signed : goal.returns-in_default-read_signed
 returns-in_default-read_signed c =
-    let spaced : let a = c.args in word_at a.text.now a.at (32 ∷ []) ≡ true =
+    let spaced : word_at c.args.text.now c.args.at (32 ∷ []) ≡ true =
         sym c.byte_at.ensures ∙ c.if-not-byte_at.false in
-    let lower : let a = c.args in let v = c.low-1.given.0 in signed_at a.text.now (a.at + 1) ≡ Whole v.0 v.1.0 =
+    let lower : let v = c.low-1.given.0 in signed_at c.args.text.now (c.args.at + 1) ≡ Whole v.0 v.1.0 =
         sym c.read_signed.ensures ∙ c.in-Whole.is in
     let again : word_at c.args.text.now c.in-Whole.after (32 ∷ []) ≡ true =
         sym c.byte_at-2.ensures ∙ c.if-not-byte_at-2.false in
@@ -68,9 +68,9 @@ read_terms-requires c =
 
 pub returns-in_default-read_terms : goal.returns-in_default-read_terms
 returns-in_default-read_terms c =
-    let spaced : let a = c.args in word_at a.text.now a.at (32 ∷ []) ≡ true =
+    let spaced : word_at c.args.text.now c.args.at (32 ∷ []) ≡ true =
         sym c.byte_at.ensures ∙ c.if-not-byte_at.false in
-    let lower : let a = c.args in let v = c.low-1.given.0 in signed_at a.text.now (a.at + 1) ≡ Whole v.0 v.1.0 =
+    let lower : let v = c.low-1.given.0 in signed_at c.args.text.now (c.args.at + 1) ≡ Whole v.0 v.1.0 =
         sym c.read_signed.ensures ∙ c.in-Whole.is in
     let again : word_at c.args.text.now c.in-Whole.after (32 ∷ []) ≡ true =
         sym c.byte_at-2.ensures ∙ c.if-not-byte_at-2.false in
@@ -86,9 +86,9 @@ store_load-requires c = let bounds = counts_within_lem _ c.requires.reached_valu
 pub returns : goal.returns
 unfolding kind_number load_row of_kind same_kind terms_in view_of
 returns c =
-    let spaced : let a = c.args in word_at a.text.now a.at (32 ∷ []) ≡ true =
+    let spaced : word_at c.args.text.now c.args.at (32 ∷ []) ≡ true =
         sym c.byte_at.ensures ∙ c.if-not-byte_at.false in
-    let lower : let a = c.args in let v = c.low-1.given.0 in signed_at a.text.now (a.at + 1) ≡ Whole v.0 v.1.0 =
+    let lower : let v = c.low-1.given.0 in signed_at c.args.text.now (c.args.at + 1) ≡ Whole v.0 v.1.0 =
         sym c.read_signed.ensures ∙ c.in-Whole.is in
     let again : word_at c.args.text.now c.in-Whole.after (32 ∷ []) ≡ true =
         sym c.byte_at-2.ensures ∙ c.if-not-byte_at-2.false in

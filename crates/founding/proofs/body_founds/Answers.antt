@@ -5,7 +5,7 @@ use Rattle.wellfounded.proofs.Scan.{part_scannable, part_body}
 use Rattle.founding.proofs.body_founds.Goals as goal
 
 pub literals_found-requires : goal.literals_found-requires
-literals_found-requires c = let pre = c.requires in (part_scannable pre.0, pre.1)
+literals_found-requires c = (part_scannable c.requires.0, c.requires.1)
 
 pub returns : goal.returns
 returns c = c.literals_found.ensures ∙ ap (all _) (part_body _ _ _)

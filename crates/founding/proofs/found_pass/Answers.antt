@@ -9,19 +9,18 @@ pub loop-row-init : goal.loop-row-init
 loop-row-init c = (omega arith, passed_start)
 
 pub found_row-requires : goal.found_row-requires
-found_row-requires c = let pre = c.requires in
-    (omega arith, record { rows = pre.rows; room = omega (arith, pre.room) })
+found_row-requires c = (omega arith, record { rows = c.requires.rows; room = omega (arith, c.requires.room) })
 
 pub overflow_add-marked : goal.overflow_add-marked
 overflow_add-marked c = omega (arith, c.loop-row.invariant.1.fewer, unmarked_le c.args.founded.now)
 
 pub loop-row-preserved : goal.loop-row-preserved
-loop-row-preserved c = let row = c.found_row in (
-      omega arith,
-      passed_turn _ _ _ row.result _ _ row.ensures.0 row.ensures.1 row.auto.1.1.1.1.0
-          (⊎_elim (λ w. rw w.0.taken (omega (arith, w.1))) (λ w. rw w.0.left (omega (arith, w.1))) c.if-found_row.branch)
-          c.loop-row.invariant.1,
-    )
+loop-row-preserved c = (
+  omega arith,
+  passed_turn _ _ _ c.found_row.result _ _ c.found_row.ensures.0 c.found_row.ensures.1 c.found_row.auto.founded
+      (⊎_elim (λ w. rw w.0.taken (omega (arith, w.1))) (λ w. rw w.0.left (omega (arith, w.1))) c.if-found_row.branch)
+      c.loop-row.invariant.1,
+)
 
 pub shape_of-founded : goal.shape_of-founded
 shape_of-founded c = c.loop-row.invariant.1.long

@@ -10,31 +10,28 @@ use Rattle.founding.proofs.FoundingLaws.{unmarked_set}
 use Rattle.founding.proofs.found_row.Goals as goal
 
 pub bounds-values-head : goal.bounds-values-head
-bounds-values-head c = let pre = c.requires in omega (arith, pre.1.rows.heads _ pre.0)
+bounds-values-head c = omega (arith, c.requires.1.rows.heads _ c.requires.0)
 
 pub bounds-founded-head : goal.bounds-founded-head
-bounds-founded-head c = let pre = c.requires in omega (arith, pre.1.rows.heads _ pre.0)
+bounds-founded-head c = omega (arith, c.requires.1.rows.heads _ c.requires.0)
 
 pub returns-then-value-lt2 : goal.returns-then-value-lt2
 unfolding found_row row_founds
-returns-then-value-lt2 c = let pre = c.requires in
-    let within = pre.1.rows.heads _ pre.0 in
+returns-then-value-lt2 c = let within = c.requires.1.rows.heads _ c.requires.0 in
     let head = c.rule_head-head.ensures.is in (
       ⊎_elim (λ w. look_decided _ _ _ _ head _ (omega arith) (omega (arith, w.taken))) (λ w. look_again _ _ _ _ head _ (eqb-true _ _ w.1.taken)) c.then-value-lt2.branch,
       omega arith,
     )
 
 pub body_founds-requires : goal.body_founds-requires
-body_founds-requires c = let pre = c.requires in
-    (record { within = omega (arith, pre.1.rows.within _ pre.0); known = pre.1.rows.known }, pre.1.room)
+body_founds-requires c = (record { within = omega (arith, c.requires.1.rows.within _ c.requires.0); known = c.requires.1.rows.known }, c.requires.1.room)
 
 pub bounds-founded-head-then-body_founds : goal.bounds-founded-head-then-body_founds
-bounds-founded-head-then-body_founds c = let pre = c.requires in omega (arith, pre.1.rows.heads _ pre.0)
+bounds-founded-head-then-body_founds c = omega (arith, c.requires.1.rows.heads _ c.requires.0)
 
 pub returns-then-body_founds : goal.returns-then-body_founds
 unfolding found_row row_founds rule_body
-returns-then-body_founds c = let pre = c.requires in
-    let within = pre.1.rows.heads _ pre.0 in
+returns-then-body_founds c = let within = c.requires.1.rows.heads _ c.requires.0 in
     let head = c.rule_head-head.ensures.is in (
       rw (← c.rule_start-start.ensures.is, ← c.rule_size-size.ensures.is)
           (look_marks _ _ _ _ head _ (omega arith) (omega arith) (sym c.body_founds.ensures ∙ c.if-body_founds.true)),

@@ -12,18 +12,18 @@ pub loop-marked-init : goal.loop-marked-init
 loop-marked-init c = (omega arith, founding_start _)
 
 pub found_pass-marked-requires : goal.found_pass-marked-requires
-found_pass-marked-requires c = record { rows = c.requires.markable.rows; room = omega (arith, c.requires.markable.room, c.found_start.auto.1.1.0) }
+found_pass-marked-requires c = record { rows = c.requires.markable.rows; room = omega (arith, c.requires.markable.room, c.found_start.auto.founded) }
 
 pub loop-marked-smaller : goal.loop-marked-smaller
 loop-marked-smaller c = omega (arith, c.found_pass-marked.ensures.fewer)
 
 pub loop-marked-preserved : goal.loop-marked-preserved
 loop-marked-preserved c = let inv = c.loop-marked.invariant in
-    (c.found_pass-marked.auto.1.1.1.0 ∙ inv.0, founding_turn c.found_pass-marked.ensures inv.1)
+    (c.found_pass-marked.auto.founded ∙ inv.0, founding_turn c.found_pass-marked.ensures inv.1)
 
 pub shape_of-founded : goal.shape_of-founded
-shape_of-founded c = c.loop-marked.invariant.0 ∙ c.found_start.auto.1.1.0
+shape_of-founded c = c.loop-marked.invariant.0 ∙ c.found_start.auto.founded
 
 pub returns : goal.returns
 returns c = founding_end (omega arith) c.loop-marked.invariant.1
-    ∙ found_from_lem _ _ _ _ _ _ c.found_start.auto.1.1.0 c.found_start.ensures
+    ∙ found_from_lem _ _ _ _ _ _ c.found_start.auto.founded c.found_start.ensures

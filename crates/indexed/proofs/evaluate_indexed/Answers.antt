@@ -9,18 +9,16 @@ use Rattle.indexed.proofs.evaluate_indexed.Goals as goal
 pub returns-in-Refused : goal.returns-in-Refused
 returns-in-Refused c =
     let given : Tables =
-        let a = c.args in
-    lent a.atoms a.rules.now a.literals.now a.clauses.now a.loads.now a.load-literals.now a.minutes.now a.marks.now in
+        lent c.args.atoms c.args.rules.now c.args.literals.now c.args.clauses.now c.args.loads.now c.args.load_literals.now c.args.minutes.now c.args.marks.now in
     let slices : IndexedSlices =
-        let a = c.args in
-    record {
-      setting = a.open-values.now;
-      values = a.values.now;
-      levels = a.levels.now;
-      work = a.work.now;
-      starts = a.starts.now;
-      entries = a.entries.now;
-      counts = a.counts.now;
+        record {
+      setting = c.args.open_values.now;
+      values = c.args.values.now;
+      levels = c.args.levels.now;
+      work = c.args.work.now;
+      starts = c.args.starts.now;
+      entries = c.args.entries.now;
+      counts = c.args.counts.now;
     } in
     early_answer (given) (slices) _ _ _ c.indexed_fault-verdict.ensures c.in-Refused.is
 
@@ -28,18 +26,16 @@ pub follow-followed-requires : goal.follow-followed-requires
 unfolding lent
 follow-followed-requires c =
     let given : Tables =
-        let a = c.args in
-    lent a.atoms a.rules.now a.literals.now a.clauses.now a.loads.now a.load-literals.now a.minutes.now a.marks.now in
+        lent c.args.atoms c.args.rules.now c.args.literals.now c.args.clauses.now c.args.loads.now c.args.load_literals.now c.args.minutes.now c.args.marks.now in
     let slices : IndexedSlices =
-        let a = c.args in
-    record {
-      setting = a.open-values.now;
-      values = a.values.now;
-      levels = a.levels.now;
-      work = a.work.now;
-      starts = a.starts.now;
-      entries = a.entries.now;
-      counts = a.counts.now;
+        record {
+      setting = c.args.open_values.now;
+      values = c.args.values.now;
+      levels = c.args.levels.now;
+      work = c.args.work.now;
+      starts = c.args.starts.now;
+      entries = c.args.entries.now;
+      counts = c.args.counts.now;
     } in
     followable (given) (slices) _ c.indexed_fault-verdict.ensures c.in_default.is
 
@@ -47,18 +43,16 @@ pub returns-in-Refused-stopped : goal.returns-in-Refused-stopped
 unfolding lent
 returns-in-Refused-stopped c =
     let given : Tables =
-        let a = c.args in
-    lent a.atoms a.rules.now a.literals.now a.clauses.now a.loads.now a.load-literals.now a.minutes.now a.marks.now in
+        lent c.args.atoms c.args.rules.now c.args.literals.now c.args.clauses.now c.args.loads.now c.args.load_literals.now c.args.minutes.now c.args.marks.now in
     let slices : IndexedSlices =
-        let a = c.args in
-    record {
-      setting = a.open-values.now;
-      values = a.values.now;
-      levels = a.levels.now;
-      work = a.work.now;
-      starts = a.starts.now;
-      entries = a.entries.now;
-      counts = a.counts.now;
+        record {
+      setting = c.args.open_values.now;
+      values = c.args.values.now;
+      levels = c.args.levels.now;
+      work = c.args.work.now;
+      starts = c.args.starts.now;
+      entries = c.args.entries.now;
+      counts = c.args.counts.now;
     } in
     setting_answer (given) (slices) _ c.indexed_fault-verdict.ensures c.in_default.is _ _ _ _ _ _ _ _ c.follow-followed.ensures _ _ c.in-Refused-stopped.is
 
@@ -66,18 +60,16 @@ pub model_fault-verdict-requires : goal.model_fault-verdict-requires
 unfolding lent
 model_fault-verdict-requires c =
     let given : Tables =
-        let a = c.args in
-    lent a.atoms a.rules.now a.literals.now a.clauses.now a.loads.now a.load-literals.now a.minutes.now a.marks.now in
+        lent c.args.atoms c.args.rules.now c.args.literals.now c.args.clauses.now c.args.loads.now c.args.load_literals.now c.args.minutes.now c.args.marks.now in
     let slices : IndexedSlices =
-        let a = c.args in
-    record {
-      setting = a.open-values.now;
-      values = a.values.now;
-      levels = a.levels.now;
-      work = a.work.now;
-      starts = a.starts.now;
-      entries = a.entries.now;
-      counts = a.counts.now;
+        record {
+      setting = c.args.open_values.now;
+      values = c.args.values.now;
+      levels = c.args.levels.now;
+      work = c.args.work.now;
+      starts = c.args.starts.now;
+      entries = c.args.entries.now;
+      counts = c.args.counts.now;
     } in
     model_scannable (given) (slices) _ c.indexed_fault-verdict.ensures c.in_default.is _ _ _ _ _ _ _ _ c.follow-followed.ensures c.in_default-stopped.is
 
@@ -85,17 +77,15 @@ pub returns : goal.returns
 unfolding lent
 returns c =
     let given : Tables =
-        let a = c.args in
-    lent a.atoms a.rules.now a.literals.now a.clauses.now a.loads.now a.load-literals.now a.minutes.now a.marks.now in
+        lent c.args.atoms c.args.rules.now c.args.literals.now c.args.clauses.now c.args.loads.now c.args.load_literals.now c.args.minutes.now c.args.marks.now in
     let slices : IndexedSlices =
-        let a = c.args in
-    record {
-      setting = a.open-values.now;
-      values = a.values.now;
-      levels = a.levels.now;
-      work = a.work.now;
-      starts = a.starts.now;
-      entries = a.entries.now;
-      counts = a.counts.now;
+        record {
+      setting = c.args.open_values.now;
+      values = c.args.values.now;
+      levels = c.args.levels.now;
+      work = c.args.work.now;
+      starts = c.args.starts.now;
+      entries = c.args.entries.now;
+      counts = c.args.counts.now;
     } in
     made_answer (given) (slices) _ c.indexed_fault-verdict.ensures c.in_default.is _ _ _ _ _ _ _ _ c.follow-followed.ensures c.in_default-stopped.is _ c.model_fault-verdict.ensures

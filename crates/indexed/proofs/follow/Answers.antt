@@ -20,12 +20,12 @@ build-requires c = (2 * length c.args.setting.now, c.requires.buildable)
 
 pub advance_stages-rounds-requires : goal.advance_stages-rounds-requires
 advance_stages-rounds-requires c = let pre = c.requires in
-    (_, advance_ready pre c.mark_defined.ensures c.bad_setting.ensures c.in_default.is (c.build.ensures _ pre.buildable))
+    (_, advance_ready pre c.mark_defined.ensures c.bad_setting.ensures c.in_default.is (c.build.ensures _ c.requires.buildable))
 
 pub returns : goal.returns
 returns c = let pre = c.requires in
     let marked = c.mark_defined.ensures in
     let is = c.bad_setting.ensures in
     let none = c.in_default.is in
-    let built = c.build.ensures _ pre.buildable in
+    let built = c.build.ensures _ c.requires.buildable in
     follows pre marked is none built (c.advance_stages-rounds.ensures _ (advance_ready pre marked is none built))

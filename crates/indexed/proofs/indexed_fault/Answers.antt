@@ -17,17 +17,15 @@ use Rattle.indexed.proofs.indexed_fault.Goals as goal
 pub returns-in-Refused : goal.returns-in-Refused
 returns-in-Refused c =
     let given : Tables =
-        let a = c.args in
-    lent a.atoms a.rules.now a.literals.now a.clauses.now a.loads.now a.load-literals.now a.minutes.now a.marks.now in
+        lent c.args.atoms c.args.rules.now c.args.literals.now c.args.clauses.now c.args.loads.now c.args.load_literals.now c.args.minutes.now c.args.marks.now in
     tables_refuse (given) _ _ _ _ _ _ _ _ _ _ (c.table_fault-verdict.ensures _) c.in-Refused.is
 
 pub returns-then-not-slices_fit : goal.returns-then-not-slices_fit
 unfolding lent
 returns-then-not-slices_fit c =
     let given : Tables =
-        let a = c.args in
-    lent a.atoms a.rules.now a.literals.now a.clauses.now a.loads.now a.load-literals.now a.minutes.now a.marks.now in
-    let fits : let a = c.args in c.slices_fit.result ≡ all is_sized (lent_lengths a.atoms (rule_count a.rules.now) a.setting a.values a.levels a.work a.counts) =
+        lent c.args.atoms c.args.rules.now c.args.literals.now c.args.clauses.now c.args.loads.now c.args.load_literals.now c.args.minutes.now c.args.marks.now in
+    let fits : c.slices_fit.result ≡ all is_sized (lent_lengths c.args.atoms (rule_count c.args.rules.now) c.args.setting c.args.values c.args.levels c.args.work c.args.counts) =
         rw c.rule_count-rows.ensures at c.slices_fit.ensures in
     slices_refuse (given) _ _ _ _ _ _ _ _ (c.table_fault-verdict.ensures _) c.in_default.is _ (fits) c.if-not-slices_fit.true-raw
 
@@ -35,9 +33,8 @@ pub returns-then-marks-atoms : goal.returns-then-marks-atoms
 unfolding lent
 returns-then-marks-atoms c =
     let given : Tables =
-        let a = c.args in
-    lent a.atoms a.rules.now a.literals.now a.clauses.now a.loads.now a.load-literals.now a.minutes.now a.marks.now in
-    let fits : let a = c.args in c.slices_fit.result ≡ all is_sized (lent_lengths a.atoms (rule_count a.rules.now) a.setting a.values a.levels a.work a.counts) =
+        lent c.args.atoms c.args.rules.now c.args.literals.now c.args.clauses.now c.args.loads.now c.args.load_literals.now c.args.minutes.now c.args.marks.now in
+    let fits : c.slices_fit.result ≡ all is_sized (lent_lengths c.args.atoms (rule_count c.args.rules.now) c.args.setting c.args.values c.args.levels c.args.work c.args.counts) =
         rw c.rule_count-rows.ensures at c.slices_fit.ensures in
     sym (slices_leave (given) _ _ _ _ _ _ _ _ (c.table_fault-verdict.ensures _) c.in_default.is _ (fits) c.if-not-slices_fit.false-raw ∙ marks_refuse _ _ c.if-marks-atoms.true)
 
@@ -45,8 +42,7 @@ pub index_fits-fit-requires : goal.index_fits-fit-requires
 unfolding lent
 index_fits-fit-requires c =
     let given : Tables =
-        let a = c.args in
-    lent a.atoms a.rules.now a.literals.now a.clauses.now a.loads.now a.load-literals.now a.minutes.now a.marks.now in
+        lent c.args.atoms c.args.rules.now c.args.literals.now c.args.clauses.now c.args.loads.now c.args.load_literals.now c.args.minutes.now c.args.marks.now in
     let t = given in
     let sizes = sound_sizes t (accepted_absent (table_tests t) (sym (c.table_fault-verdict.ensures _) ∙ c.in_default.is)) in
     (sizes.few_atoms, omega (arith, sizes.few_rules))
@@ -55,9 +51,8 @@ pub returns : goal.returns
 unfolding lent
 returns c =
     let given : Tables =
-        let a = c.args in
-    lent a.atoms a.rules.now a.literals.now a.clauses.now a.loads.now a.load-literals.now a.minutes.now a.marks.now in
-    let fits : let a = c.args in c.slices_fit.result ≡ all is_sized (lent_lengths a.atoms (rule_count a.rules.now) a.setting a.values a.levels a.work a.counts) =
+        lent c.args.atoms c.args.rules.now c.args.literals.now c.args.clauses.now c.args.loads.now c.args.load_literals.now c.args.minutes.now c.args.marks.now in
+    let fits : c.slices_fit.result ≡ all is_sized (lent_lengths c.args.atoms (rule_count c.args.rules.now) c.args.setting c.args.values c.args.levels c.args.work c.args.counts) =
         rw c.rule_count-rows.ensures at c.slices_fit.ensures in
     let t = given in
     let fit = c.index_fits-fit.ensures in

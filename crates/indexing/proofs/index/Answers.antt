@@ -10,16 +10,14 @@ pub build-requires : goal.build-requires
 unfolding lent
 build-requires c =
     let given : Tables =
-        let a = c.args in
-    lent a.atoms a.rules.now a.literals.now a.clauses.now a.loads.now a.load-literals.now a.minutes.now a.marks.now in
+    lent c.args.atoms c.args.rules.now c.args.literals.now c.args.clauses.now c.args.loads.now c.args.load_literals.now c.args.minutes.now c.args.marks.now in
     (2 * c.args.atoms, ready (given) _ _ (sym c.index_fault-verdict.ensures ∙ c.in-Accepted.is))
 
 pub returns-in-Accepted : goal.returns-in-Accepted
 unfolding lent
 returns-in-Accepted c =
     let given : Tables =
-        let a = c.args in
-    lent a.atoms a.rules.now a.literals.now a.clauses.now a.loads.now a.load-literals.now a.minutes.now a.marks.now in
+    lent c.args.atoms c.args.rules.now c.args.literals.now c.args.clauses.now c.args.loads.now c.args.load_literals.now c.args.minutes.now c.args.marks.now in
     let is = c.index_fault-verdict.ensures in
     let accepted = c.in-Accepted.is in
     accepted_builds is accepted (c.build.ensures (2 * c.args.atoms) (ready (given) _ _ (sym is ∙ accepted)))

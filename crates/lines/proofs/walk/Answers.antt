@@ -1,4 +1,5 @@
 -- `lines::walk` meets its contract: at each line the rest of the text is judged as the whole is, and storing its forms stores all.
+use borrow.Author.Rules.{rules}
 use Prim.Native.Nat.{◌-◌}
 use mathlib.Core.Path.{◌∙◌}
 use native.Mathlib.Omega.{arith}
@@ -35,39 +36,39 @@ loop-at-preserved c = let inv = c.loop-at.invariant in
 
 pub shape_of-rules-in-Stop : goal.shape_of-rules-in-Stop
 unfolding lent_tables
-shape_of-rules-in-Stop c = c.read_form-line.auto.literals.1.1.0 ∙ c.loop-at.invariant.lengths Rules
+shape_of-rules-in-Stop c = c.read_form-line.auto.rules ∙ c.loop-at.invariant.lengths Rules
 
 pub shape_of-literals-in-Stop : goal.shape_of-literals-in-Stop
 unfolding lent_tables
-shape_of-literals-in-Stop c = c.read_form-line.auto.literals.1.1.1.0 ∙ c.loop-at.invariant.lengths Literals
+shape_of-literals-in-Stop c = c.read_form-line.auto.literals ∙ c.loop-at.invariant.lengths Literals
 
 pub shape_of-clauses-in-Stop : goal.shape_of-clauses-in-Stop
 unfolding lent_tables
-shape_of-clauses-in-Stop c = c.read_form-line.auto.literals.1.1.1.1.0 ∙ c.loop-at.invariant.lengths Clauses
+shape_of-clauses-in-Stop c = c.read_form-line.auto.clauses ∙ c.loop-at.invariant.lengths Clauses
 
 pub shape_of-loads-in-Stop : goal.shape_of-loads-in-Stop
 unfolding lent_tables
-shape_of-loads-in-Stop c = c.read_form-line.auto.literals.1.1.1.1.1.0 ∙ c.loop-at.invariant.lengths Loads
+shape_of-loads-in-Stop c = c.read_form-line.auto.loads ∙ c.loop-at.invariant.lengths Loads
 
 pub shape_of-load_literals-in-Stop : goal.shape_of-load_literals-in-Stop
 unfolding lent_tables
-shape_of-load_literals-in-Stop c = c.read_form-line.auto.literals.1.1.1.1.1.1.0 ∙ c.loop-at.invariant.lengths LoadLiterals
+shape_of-load_literals-in-Stop c = c.read_form-line.auto.load_literals ∙ c.loop-at.invariant.lengths LoadLiterals
 
 pub shape_of-minutes-in-Stop : goal.shape_of-minutes-in-Stop
 unfolding lent_tables
-shape_of-minutes-in-Stop c = c.read_form-line.auto.literals.1.1.1.1.1.1.1.0 ∙ c.loop-at.invariant.lengths Minutes
+shape_of-minutes-in-Stop c = c.read_form-line.auto.minutes ∙ c.loop-at.invariant.lengths Minutes
 
 pub shape_of-marks-in-Stop : goal.shape_of-marks-in-Stop
 unfolding lent_tables
-shape_of-marks-in-Stop c = c.read_form-line.auto.literals.1.1.1.1.1.1.1.1.0 ∙ c.loop-at.invariant.lengths Marks
+shape_of-marks-in-Stop c = c.read_form-line.auto.marks ∙ c.loop-at.invariant.lengths Marks
 
 pub shape_of-values-in-Stop : goal.shape_of-values-in-Stop
 unfolding lent_tables
-shape_of-values-in-Stop c = c.read_form-line.auto.literals.1.1.1.1.1.1.1.1.1.0 ∙ c.loop-at.invariant.lengths Values
+shape_of-values-in-Stop c = c.read_form-line.auto.values ∙ c.loop-at.invariant.lengths Values
 
 pub shape_of-levels-in-Stop : goal.shape_of-levels-in-Stop
 unfolding lent_tables
-shape_of-levels-in-Stop c = c.read_form-line.auto.literals.1.1.1.1.1.1.1.1.1.1.0 ∙ c.loop-at.invariant.lengths Levels
+shape_of-levels-in-Stop c = c.read_form-line.auto.levels ∙ c.loop-at.invariant.lengths Levels
 
 pub returns-in-Stop : goal.returns-in-Stop
 returns-in-Stop c = let inv = c.loop-at.invariant in

@@ -14,8 +14,7 @@ pub overflow_add-from : goal.overflow_add-from
 overflow_add-from c = omega (arith, c.loop-group.invariant.few, c.loop-group.invariant.near, c.requires.le_groups)
 
 pub loop-group-preserved : goal.loop-group-preserved
-loop-group-preserved c = let column = c.read_column in
-    columns_turn c.loop-group.invariant c.loop-group-test.true c.requires.le_groups.2 column.ensures column.auto.1.1.1.0
+loop-group-preserved c = columns_turn c.loop-group.invariant c.loop-group-test.true c.requires.le_groups.2 c.read_column.ensures c.read_column.auto.levels
 
 pub shape_of-levels : goal.shape_of-levels
 shape_of-levels c = c.loop-group.invariant.same

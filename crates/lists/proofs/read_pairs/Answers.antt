@@ -5,12 +5,9 @@ use Rattle.lists.proofs.PairLaws.{pairs_laid}
 use Rattle.lists.proofs.read_pairs.Goals as goal
 
 pub returns : goal.returns
-returns c = let columns = c.read_columns in
-    let values = c.read_values-read in
-    let a = c.args in
-    record {
-      answered = values.ensures.answered;
+returns c = record {
+      answered = c.read_values-read.ensures.answered;
       laid =
-          pairs_laid a.values.now a.levels.now values.new.1.1.1.0 values.new.1.1.1.1.0 columns.new.1.1.1.1.0 a.groups a.size
-          (parts read_pair (drop a.at a.text.now)) values.ensures.laid columns.ensures;
+          pairs_laid c.args.values.now c.args.levels.now c.read_values-read.new.values c.read_values-read.new.levels c.read_columns.new.levels c.args.groups c.args.size
+          (parts read_pair (drop c.args.at c.args.text.now)) c.read_values-read.ensures.laid c.read_columns.ensures;
     }

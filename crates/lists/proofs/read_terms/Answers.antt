@@ -75,10 +75,8 @@ loop-next-preserved c =
         sym c.byte_at.ensures ∙ c.loop-next-test.true in
     let read : let v = c.worked-1.given.0 in term_read_at c.args.text.now (c.loop-next.next + 1) ≡ Weighed v.0 v.1.0 v.1.1.0 =
         sym c.read_term.ensures ∙ c.in-Weighed.is in
-    let minutes = c.store_minutes in
-    let literals = c.store in
-    terms_turn c.loop-next.invariant (spaced) (read) literals.ensures literals.auto.0
-    minutes.ensures minutes.auto.0 c.minutes_within.ensures
+    terms_turn c.loop-next.invariant (spaced) (read) c.store.ensures c.store.auto.table
+    c.store_minutes.ensures c.store_minutes.auto.table c.minutes_within.ensures
 
 pub byte_at-requires-2 : goal.byte_at-requires-2
 byte_at-requires-2 c = tt

@@ -66,9 +66,7 @@ loop-next-preserved c =
         sym c.byte_at.ensures ∙ c.loop-next-test.true in
     let read : let v = c.value-1.given.0 in pair_at c.args.text.now (c.loop-next.next + 1) 0 ≡ Paired v.0 v.1.0 v.1.1.0 v.1.1.1.0 v.1.1.1.1.0 =
         sym c.read_pair.ensures ∙ c.in-Paired.is in
-    let levels = c.store in
-    let values = c.store_value in
-    values_turn c.loop-next.invariant (spaced) (read) values.ensures values.auto.0 levels.ensures levels.auto.0
+    values_turn c.loop-next.invariant (spaced) (read) c.store_value.ensures c.store_value.auto.values c.store.ensures c.store.auto.table
 
 pub byte_at-requires-2 : goal.byte_at-requires-2
 byte_at-requires-2 c = tt

@@ -58,10 +58,10 @@ returns-in-NoState c =
     refused_comes c.args.book (tables) c.in-NoState.is c.verdict_alone.ensures
 
 pub shape_of-values : goal.shape_of-values
-shape_of-values c = c.evaluate_book.auto.levels.1.1.1.1.1.1.1.0
+shape_of-values c = c.evaluate_book.auto.values
 
 pub shape_of-levels : goal.shape_of-levels
-shape_of-levels c = c.evaluate_book.auto.levels.1.1.1.1.1.1.1.1.0
+shape_of-levels c = c.evaluate_book.auto.levels
 
 pub returns-in-OpenState : goal.returns-in-OpenState
 unfolding lent_tables

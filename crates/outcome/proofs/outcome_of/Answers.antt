@@ -21,10 +21,10 @@ unfolding full_size full_space lent_tables space_of space_with
 book_outcome-requires c = record { fits_book = (text_read _ _ refl c.full_space.ensures c.walk-judged.ensures c.answer_of.ensures).fit; hold_every_atom = c.requires }
 
 pub shape_of-values : goal.shape_of-values
-shape_of-values c = c.book_outcome.auto.levels.1.1.1.1.1.1.1.1.1.0
+shape_of-values c = c.book_outcome.auto.values
 
 pub shape_of-levels : goal.shape_of-levels
-shape_of-levels c = c.book_outcome.auto.levels.1.1.1.1.1.1.1.1.1.1.0
+shape_of-levels c = c.book_outcome.auto.levels
 
 pub returns : goal.returns
 unfolding full_size full_space lent_tables space_of space_with

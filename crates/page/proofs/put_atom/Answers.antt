@@ -19,7 +19,7 @@ put_decimal-named-requires c =
     let room : c.args.at + (10 + (length (decimal c.args.atom) + (length (decimal c.args.value) + length (decimal c.args.level)))) ≤ length c.args.page.now =
         omega (arith, length_atom_line c.args.atom c.args.value c.args.level, c.requires.level_in_bounds) in
     let begun = c.put-begun.ensures in
-    (omega (arith, c.requires.atom_le_max_position.0), omega (arith, room, begun.answered, puts_length begun))
+    (omega (arith, c.requires.atom_le_max_position.0), omega (arith, room, c.put-begun.ensures.answered, puts_length begun))
 
 pub put_spaced-valued-requires : goal.put_spaced-valued-requires
 put_spaced-valued-requires c =
@@ -27,7 +27,7 @@ put_spaced-valued-requires c =
         omega (arith, length_atom_line c.args.atom c.args.value c.args.level, c.requires.level_in_bounds) in
     let begun = c.put-begun.ensures in
     let named = c.put_decimal-named.ensures in
-    (c.requires.atom_le_max_position.1, omega (arith, room, begun.answered, puts_length begun, named.answered, puts_length named))
+    (c.requires.atom_le_max_position.1, omega (arith, room, c.put-begun.ensures.answered, puts_length begun, c.put_decimal-named.ensures.answered, puts_length named))
 
 pub put_spaced-levelled-requires : goal.put_spaced-levelled-requires
 put_spaced-levelled-requires c =
@@ -36,7 +36,7 @@ put_spaced-levelled-requires c =
     let begun = c.put-begun.ensures in
     let named = c.put_decimal-named.ensures in
     let valued = c.put_spaced-valued.ensures in
-    (c.requires.atom_le_max_position.2, omega (arith, room, begun.answered, puts_length begun, named.answered, puts_length named, valued.answered, puts_length valued))
+    (c.requires.atom_le_max_position.2, omega (arith, room, c.put-begun.ensures.answered, puts_length begun, c.put_decimal-named.ensures.answered, puts_length named, c.put_spaced-valued.ensures.answered, puts_length valued))
 
 pub put-requires : goal.put-requires
 put-requires c =
@@ -46,7 +46,7 @@ put-requires c =
     let named = c.put_decimal-named.ensures in
     let valued = c.put_spaced-valued.ensures in
     let levelled = c.put_spaced-levelled.ensures in
-    omega (arith, room, begun.answered, puts_length begun, named.answered, puts_length named, valued.answered, puts_length valued, levelled.answered, puts_length levelled)
+    omega (arith, room, c.put-begun.ensures.answered, puts_length begun, c.put_decimal-named.ensures.answered, puts_length named, c.put_spaced-valued.ensures.answered, puts_length valued, c.put_spaced-levelled.ensures.answered, puts_length levelled)
 
 pub returns : goal.returns
 unfolding atom_line

@@ -10,12 +10,12 @@ put-begun-requires c = omega (arith, length_made_line c.args.rounds, c.requires.
 
 pub put_decimal-counted-requires : goal.put_decimal-counted-requires
 put_decimal-counted-requires c = let begun = c.put-begun.ensures in
-    (omega (arith, c.requires.0), omega (arith, length_made_line c.args.rounds, c.requires.1, begun.answered, puts_length begun))
+    (omega (arith, c.requires.0), omega (arith, length_made_line c.args.rounds, c.requires.1, c.put-begun.ensures.answered, puts_length begun))
 
 pub put-requires : goal.put-requires
 put-requires c = let begun = c.put-begun.ensures in
     let counted = c.put_decimal-counted.ensures in
-    omega (arith, length_made_line c.args.rounds, c.requires.1, begun.answered, puts_length begun, counted.answered, puts_length counted)
+    omega (arith, length_made_line c.args.rounds, c.requires.1, c.put-begun.ensures.answered, puts_length begun, c.put_decimal-counted.ensures.answered, puts_length counted)
 
 pub returns : goal.returns
 unfolding made_line

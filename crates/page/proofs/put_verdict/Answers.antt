@@ -17,7 +17,7 @@ pub put_decimal-numbered-requires : goal.put_decimal-numbered-requires
 put_decimal-numbered-requires c = let long = length_refused _ _ _ _ c.in-Refused.is c.fault_number.ensures in
     let begun = c.put-begun.ensures in (
       omega (arith, c.fault_number.ensures, (number_bounds c.in-Refused.fault).1),
-      omega (arith, long, c.requires.1, begun.answered, puts_length begun),
+      omega (arith, long, c.requires.1, c.put-begun.ensures.answered, puts_length begun),
     )
 
 pub put_spaced-placed-requires : goal.put_spaced-placed-requires
@@ -25,7 +25,7 @@ put_spaced-placed-requires c = let long = length_refused _ _ _ _ c.in-Refused.is
     let begun = c.put-begun.ensures in
     let numbered = c.put_decimal-numbered.ensures in (
       refused_position _ _ _ c.in-Refused.is c.requires.0,
-      omega (arith, long, c.requires.1, begun.answered, puts_length begun, numbered.answered, puts_length numbered),
+      omega (arith, long, c.requires.1, c.put-begun.ensures.answered, puts_length begun, c.put_decimal-numbered.ensures.answered, puts_length numbered),
     )
 
 pub put-requires-in-Refused : goal.put-requires-in-Refused
@@ -33,7 +33,7 @@ put-requires-in-Refused c = let long = length_refused _ _ _ _ c.in-Refused.is c.
     let begun = c.put-begun.ensures in
     let numbered = c.put_decimal-numbered.ensures in
     let placed = c.put_spaced-placed.ensures in
-    omega (arith, long, c.requires.1, begun.answered, puts_length begun, numbered.answered, puts_length numbered, placed.answered, puts_length placed)
+    omega (arith, long, c.requires.1, c.put-begun.ensures.answered, puts_length begun, c.put_decimal-numbered.ensures.answered, puts_length numbered, c.put_spaced-placed.ensures.answered, puts_length placed)
 
 pub returns-in-Accepted : goal.returns-in-Accepted
 returns-in-Accepted c = verdict_accepted _ c.in-Accepted.is c.put.ensures

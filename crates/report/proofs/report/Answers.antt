@@ -10,12 +10,12 @@ returns-then-page-lt-PAGE_SIZE c = report_short _ _ c.if-page-lt-PAGE_SIZE.true
 
 pub slice_bounds-put_page-end : goal.slice_bounds-put_page-end
 slice_bounds-put_page-end c = let few = atoms_within _ _ _ c.outcome_of-outcome.ensures in
-    let long = c.outcome_of-outcome.auto.levels.0 in
+    let long = c.outcome_of-outcome.auto.values in
     search rules
 
 pub slice_bounds-put_page-end-2 : goal.slice_bounds-put_page-end-2
 slice_bounds-put_page-end-2 c = let few = atoms_within _ _ _ c.outcome_of-outcome.ensures in
-    let long = c.outcome_of-outcome.auto.levels.1.0 in
+    let long = c.outcome_of-outcome.auto.levels in
     search rules
 
 pub put_page-requires : goal.put_page-requires

@@ -1,5 +1,6 @@
 -- `roundtrips::rewrite` meets its contract: the contracts of the writer and the reader, and the round trip.
 use mathlib.Core.Path.{refl}
+use borrow.Author.Rules.{rules}
 use Rattle.roundtrips.proofs.Written.{written_within}
 use Rattle.roundtrips.proofs.Rewriting.{rewrite_refused, rewrite_read}
 use Rattle.roundtrips.proofs.rewrite.Goals as goal
@@ -41,37 +42,37 @@ pub returns-in-Refused : goal.returns-in-Refused
 returns-in-Refused c = rewrite_refused _ _ _ refl c.write-written.ensures c.in-Refused.is c.answer_of.ensures
 
 pub slice_bounds-read-end : goal.slice_bounds-read-end
-slice_bounds-read-end c = rw c.write-written.auto.1.1.1.1.1.1.1.1.1.1.0 (written_within c.write-written.ensures)
+slice_bounds-read-end c = rw c.write-written.auto.text (written_within c.write-written.ensures)
 
 pub read-requires : goal.read-requires
 read-requires c = tt
 
 pub shape_of-rules : goal.shape_of-rules
-shape_of-rules c = c.read.auto.literals.0
+shape_of-rules c = c.read.auto.rules
 
 pub shape_of-literals : goal.shape_of-literals
-shape_of-literals c = c.read.auto.literals.1.0
+shape_of-literals c = c.read.auto.literals
 
 pub shape_of-clauses : goal.shape_of-clauses
-shape_of-clauses c = c.read.auto.literals.1.1.0
+shape_of-clauses c = c.read.auto.clauses
 
 pub shape_of-loads : goal.shape_of-loads
-shape_of-loads c = c.read.auto.literals.1.1.1.0
+shape_of-loads c = c.read.auto.loads
 
 pub shape_of-load_literals : goal.shape_of-load_literals
-shape_of-load_literals c = c.read.auto.literals.1.1.1.1.0
+shape_of-load_literals c = c.read.auto.load_literals
 
 pub shape_of-minutes : goal.shape_of-minutes
-shape_of-minutes c = c.read.auto.literals.1.1.1.1.1.0
+shape_of-minutes c = c.read.auto.minutes
 
 pub shape_of-marks : goal.shape_of-marks
-shape_of-marks c = c.read.auto.literals.1.1.1.1.1.1.0
+shape_of-marks c = c.read.auto.marks
 
 pub shape_of-values : goal.shape_of-values
-shape_of-values c = c.read.auto.literals.1.1.1.1.1.1.1.0
+shape_of-values c = c.read.auto.values
 
 pub shape_of-levels : goal.shape_of-levels
-shape_of-levels c = c.read.auto.literals.1.1.1.1.1.1.1.1.0
+shape_of-levels c = c.read.auto.levels
 
 pub returns : goal.returns
 returns c = rewrite_read _ _ _ refl c.write-written.ensures c.in_default.is

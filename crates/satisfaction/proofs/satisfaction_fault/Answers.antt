@@ -13,15 +13,15 @@ returns-in-At c = found_refuses _ _ _ _ _ refl c.failing_clause.ensures c.in-At.
 pub returns-in-At-failing_load : goal.returns-in-At-failing_load
 unfolding clause_test load_test
 returns-in-At-failing_load c =
-    let clauses-hold : let a = c.args in let load = load_test a.loads.now a.load-literals.now a.minutes.now a.values.now in first_fault (clause_test a.clauses.now a.literals.now a.values.now ∷ load ∷ []) ≡ first_fault (load ∷ []) =
-        nothing_leaves _ _ _ _ refl c.failing_clause.ensures c.in_default.is in
+    let clauses-hold : let load = load_test c.args.loads.now c.args.load_literals.now c.args.minutes.now c.args.values.now in first_fault (clause_test c.args.clauses.now c.args.literals.now c.args.values.now ∷ load ∷ []) ≡ first_fault (load ∷ []) =
+    nothing_leaves _ _ _ _ refl c.failing_clause.ensures c.in_default.is in
     found_refuses _ _ _ _ _ (clauses-hold) c.failing_load.ensures c.in-At-failing_load.is
 
 pub returns : goal.returns
 unfolding clause_test first_fault load_test
 returns c =
-    let clauses-hold : let a = c.args in let load = load_test a.loads.now a.load-literals.now a.minutes.now a.values.now in first_fault (clause_test a.clauses.now a.literals.now a.values.now ∷ load ∷ []) ≡ first_fault (load ∷ []) =
-        nothing_leaves _ _ _ _ refl c.failing_clause.ensures c.in_default.is in
-    let loads-hold : let a = c.args in first_fault (clause_test a.clauses.now a.literals.now a.values.now ∷ load_test a.loads.now a.load-literals.now a.minutes.now a.values.now ∷ []) ≡ first_fault [] =
-        nothing_leaves _ _ _ _ (clauses-hold) c.failing_load.ensures c.in_default-failing_load.is in
+    let clauses-hold : let load = load_test c.args.loads.now c.args.load_literals.now c.args.minutes.now c.args.values.now in first_fault (clause_test c.args.clauses.now c.args.literals.now c.args.values.now ∷ load ∷ []) ≡ first_fault (load ∷ []) =
+    nothing_leaves _ _ _ _ refl c.failing_clause.ensures c.in_default.is in
+    let loads-hold : first_fault (clause_test c.args.clauses.now c.args.literals.now c.args.values.now ∷ load_test c.args.loads.now c.args.load_literals.now c.args.minutes.now c.args.values.now ∷ []) ≡ first_fault [] =
+    nothing_leaves _ _ _ _ (clauses-hold) c.failing_load.ensures c.in_default-failing_load.is in
     sym (loads-hold)

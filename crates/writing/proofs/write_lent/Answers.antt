@@ -20,8 +20,7 @@ pub rows_fit-fit-requires : goal.rows_fit-fit-requires
 unfolding lent
 rows_fit-fit-requires c =
     let given : Tables =
-        let a = c.args in
-    lent (length a.values.now) a.rules.now a.literals.now a.clauses.now a.loads.now a.load-literals.now a.minutes.now a.marks.now in
+        lent (length c.args.values.now) c.args.rules.now c.args.literals.now c.args.clauses.now c.args.loads.now c.args.load_literals.now c.args.minutes.now c.args.marks.now in
     let sizes = sound_sizes (given) c.requires.none in
     (omega (arith, sizes.few_rules), omega (arith, sizes.few_clauses), omega (arith, sizes.few_loads))
 
@@ -29,24 +28,21 @@ pub returns-in-Refused : goal.returns-in-Refused
 unfolding lent
 returns-in-Refused c =
     let given : Tables =
-        let a = c.args in
-    lent (length a.values.now) a.rules.now a.literals.now a.clauses.now a.loads.now a.load-literals.now a.minutes.now a.marks.now in
+        lent (length c.args.values.now) c.args.rules.now c.args.literals.now c.args.clauses.now c.args.loads.now c.args.load_literals.now c.args.minutes.now c.args.marks.now in
     refused_writes _ _ (early_refuses (given) (text_test (given) c.args.values.now c.args.levels.now (length c.args.text.now)) c.requires.marked _ _ _ _ _ c.not_held_atom-mark.ensures (λ unfit. rows_refuse (given) _ _ _ (sym c.rows_fit-fit.ensures ∙ unfit)) (sym c.first_refusal-early.ensures ∙ c.in-Refused.is)) c.refused.ensures
 
 pub book_length-length-requires : goal.book_length-length-requires
 unfolding lent
 book_length-length-requires c =
     let given : Tables =
-        let a = c.args in
-    lent (length a.values.now) a.rules.now a.literals.now a.clauses.now a.loads.now a.load-literals.now a.minutes.now a.marks.now in
+        lent (length c.args.values.now) c.args.rules.now c.args.literals.now c.args.clauses.now c.args.loads.now c.args.load_literals.now c.args.minutes.now c.args.marks.now in
     record { puttable = puttable (given) _ _ c.requires; short = short (given) _ _ c.requires }
 
 pub returns-then-not-bytes_fit : goal.returns-then-not-bytes_fit
 unfolding lent
 returns-then-not-bytes_fit c =
     let given : Tables =
-        let a = c.args in
-    lent (length a.values.now) a.rules.now a.literals.now a.clauses.now a.loads.now a.load-literals.now a.minutes.now a.marks.now in
+        lent (length c.args.values.now) c.args.rules.now c.args.literals.now c.args.clauses.now c.args.loads.now c.args.load_literals.now c.args.minutes.now c.args.marks.now in
     let early-passed : let t = given in let text = text_test t c.args.values.now c.args.levels.now (length c.args.text.now) in (first_fault (mark_test t ∷ text ∷ []) ≡ first_fault (text ∷ [])) × (rows_fit c.args.rules.now c.args.clauses.now c.args.loads.now ≡ true) =
         let left = early_leaves (given) (text_test (given) c.args.values.now c.args.levels.now (length c.args.text.now)) c.requires.marked _ _ _ c.not_held_atom-mark.ensures (sym c.first_refusal-early.ensures ∙ c.in_default.is) in
     (left.0, sym c.rows_fit-fit.ensures ∙ left.1) in
@@ -56,8 +52,7 @@ pub put_book-requires : goal.put_book-requires
 unfolding lent
 put_book-requires c =
     let given : Tables =
-        let a = c.args in
-    lent (length a.values.now) a.rules.now a.literals.now a.clauses.now a.loads.now a.load-literals.now a.minutes.now a.marks.now in
+        lent (length c.args.values.now) c.args.rules.now c.args.literals.now c.args.clauses.now c.args.loads.now c.args.load_literals.now c.args.minutes.now c.args.marks.now in
     let bytes-fitted : bytes_fit (length (text_of (given) c.args.values.now c.args.levels.now)) (length c.args.text.now) ≡ true =
         rw c.book_length-length.ensures at (sym c.bytes_fit.ensures) ∙ c.if-not-bytes_fit.false in
     record { puttable = puttable (given) _ _ c.requires; levels_in_bounds = bytes_within (given) _ _ _ (bytes-fitted) }
@@ -66,8 +61,7 @@ pub returns : goal.returns
 unfolding lent
 returns c =
     let given : Tables =
-        let a = c.args in
-    lent (length a.values.now) a.rules.now a.literals.now a.clauses.now a.loads.now a.load-literals.now a.minutes.now a.marks.now in
+        lent (length c.args.values.now) c.args.rules.now c.args.literals.now c.args.clauses.now c.args.loads.now c.args.load_literals.now c.args.minutes.now c.args.marks.now in
     let bytes-fitted : bytes_fit (length (text_of (given) c.args.values.now c.args.levels.now)) (length c.args.text.now) ≡ true =
         rw c.book_length-length.ensures at (sym c.bytes_fit.ensures) ∙ c.if-not-bytes_fit.false in
     let early-passed : let t = given in let text = text_test t c.args.values.now c.args.levels.now (length c.args.text.now) in (first_fault (mark_test t ∷ text ∷ []) ≡ first_fault (text ∷ [])) × (rows_fit c.args.rules.now c.args.clauses.now c.args.loads.now ≡ true) =

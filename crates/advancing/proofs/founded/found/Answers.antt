@@ -13,8 +13,7 @@ pub count_lacks-end-requires : goal.count_lacks-end-requires
 count_lacks-end-requires c = found_startable c.requires.3 c.copy_marks.ensures c.lack_literals.ensures _ _ (omega arith) (omega arith)
 
 pub found_waves-requires : goal.found_waves-requires
-found_waves-requires c = let pre = c.requires in
-    (pre.0, _, pre.1, pre.2, found_first pre.3 c.copy_marks.ensures c.lack_literals.ensures _ _ (omega arith) (omega arith) c.count_lacks-end.ensures)
+found_waves-requires c = (c.requires.0, _, c.requires.1, c.requires.2, found_first c.requires.3 c.copy_marks.ensures c.lack_literals.ensures _ _ (omega arith) (omega arith) c.count_lacks-end.ensures)
 
 pub returns : goal.returns
 returns c = λ d setting k ready.

@@ -8,12 +8,10 @@ pub loop-from-init : goal.loop-from-init
 loop-from-init c = waving_start
 
 pub propagate-next-requires : goal.propagate-next-requires
-propagate-next-requires c = let pre = c.requires in
-    wave_next pre.4.lends (c.loop-from.invariant.at pre.0 pre.1 pre.2 pre.3 pre.4)
+propagate-next-requires c = wave_next c.requires.4.lends (c.loop-from.invariant.at c.requires.0 c.requires.1 c.requires.2 c.requires.3 c.requires.4)
 
 pub loop-from-smaller : goal.loop-from-smaller
-loop-from-smaller c = let pre = c.requires in
-    let room = wave_room pre.4.lends (c.loop-from.invariant.at pre.0 pre.1 pre.2 pre.3 pre.4) in
+loop-from-smaller c = let room = wave_room c.requires.4.lends (c.loop-from.invariant.at c.requires.0 c.requires.1 c.requires.2 c.requires.3 c.requires.4) in
     omega (arith, room, c.loop-from-test.true, c.propagate-next.ensures.done.queued.long)
 
 pub loop-from-preserved : goal.loop-from-preserved

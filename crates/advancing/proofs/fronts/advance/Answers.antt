@@ -15,14 +15,14 @@ propagate-next-requires c = advance_fits c.requires.3
 
 pub close-requires : goal.close-requires
 close-requires c =
-    let closes : let a = c.args in let last = c.propagate-next.new.values.1.1.1.1 in (d : Definition) (setting : List ℕ) (k : ℕ) → Advances d a.rules.now a.literals.now a.starts.now a.entries.now setting k a.level a.from a.end a.due a.counts.now a.founded.now a.values.now a.levels.now a.queue.now → Closes d a.rules.now a.literals.now a.starts.now a.entries.now setting (suc k) a.due a.end c.propagate-next.result a.level c.found_if.new.1.1.1.1.1.1.0 last.0 last.1.0 a.levels.now last.1.1.0 =
-        λ d setting k v. advance_closes v c.found_if.auto.1.1.1.1.1.1.0 (c.found_if.ensures d setting (suc k) (advance_founds v)) c.propagate-next.ensures.done.many
+    let closes : let last = c.propagate-next.new.counts in (d : Definition) (setting : List ℕ) (k : ℕ) → Advances d c.args.rules.now c.args.literals.now c.args.starts.now c.args.entries.now setting k c.args.level c.args.from c.args.end c.args.due c.args.counts.now c.args.founded.now c.args.values.now c.args.levels.now c.args.queue.now → Closes d c.args.rules.now c.args.literals.now c.args.starts.now c.args.entries.now setting (suc k) c.args.due c.args.end c.propagate-next.result c.args.level c.found_if.new.founded last.0 last.1.0 c.args.levels.now last.1.1.0 =
+        λ d setting k v. advance_closes v c.found_if.auto.founded (c.found_if.ensures d setting (suc k) (advance_founds v)) c.propagate-next.ensures.done.many
     c.propagate-next.ensures in
-    let pre = c.requires in (pre.0, _, _, _, pre.1, _, suc pre.2, closes pre.0 pre.1 pre.2 pre.3)
+    (c.requires.0, _, _, _, c.requires.1, _, suc c.requires.2, closes c.requires.0 c.requires.1 c.requires.2 c.requires.3)
 
 pub returns : goal.returns
 returns c =
-    let closes : let a = c.args in let last = c.propagate-next.new.values.1.1.1.1 in (d : Definition) (setting : List ℕ) (k : ℕ) → Advances d a.rules.now a.literals.now a.starts.now a.entries.now setting k a.level a.from a.end a.due a.counts.now a.founded.now a.values.now a.levels.now a.queue.now → Closes d a.rules.now a.literals.now a.starts.now a.entries.now setting (suc k) a.due a.end c.propagate-next.result a.level c.found_if.new.1.1.1.1.1.1.0 last.0 last.1.0 a.levels.now last.1.1.0 =
-        λ d setting k v. advance_closes v c.found_if.auto.1.1.1.1.1.1.0 (c.found_if.ensures d setting (suc k) (advance_founds v)) c.propagate-next.ensures.done.many
+    let closes : let last = c.propagate-next.new.counts in (d : Definition) (setting : List ℕ) (k : ℕ) → Advances d c.args.rules.now c.args.literals.now c.args.starts.now c.args.entries.now setting k c.args.level c.args.from c.args.end c.args.due c.args.counts.now c.args.founded.now c.args.values.now c.args.levels.now c.args.queue.now → Closes d c.args.rules.now c.args.literals.now c.args.starts.now c.args.entries.now setting (suc k) c.args.due c.args.end c.propagate-next.result c.args.level c.found_if.new.founded last.0 last.1.0 c.args.levels.now last.1.1.0 =
+        λ d setting k v. advance_closes v c.found_if.auto.founded (c.found_if.ensures d setting (suc k) (advance_founds v)) c.propagate-next.ensures.done.many
     c.propagate-next.ensures in
     λ d setting k v. c.close.ensures d _ _ _ setting _ (suc k) (closes d setting k v)

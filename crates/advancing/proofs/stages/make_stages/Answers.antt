@@ -18,36 +18,36 @@ start_counts-end-requires c = (_, _, _, _, _, c.requires.2)
 
 pub close-front-requires : goal.close-front-requires
 close-front-requires c =
-    let closes : let a = c.args in let last = c.start_counts-end.new.values.1 in (d : Definition) (setting : List ℕ) → AtStart d a.rules.now a.literals.now a.starts.now a.entries.now setting a.counts.now a.values.now a.levels.now a.queue.now → Closes d a.rules.now a.literals.now a.starts.now a.entries.now setting 0 true 0 c.start_counts-end.result 1 c.found.new.1.1.1.1.1.0 last.0 last.1.0 a.levels.now last.1.1.0 =
+    let closes : let last = c.start_counts-end.new.counts in (d : Definition) (setting : List ℕ) → AtStart d c.args.rules.now c.args.literals.now c.args.starts.now c.args.entries.now setting c.args.counts.now c.args.values.now c.args.levels.now c.args.queue.now → Closes d c.args.rules.now c.args.literals.now c.args.starts.now c.args.entries.now setting 0 true 0 c.start_counts-end.result 1 c.found.new.marks last.0 last.1.0 c.args.levels.now last.1.1.0 =
         λ d setting at. start_closes at.lends (c.found.ensures d setting 0 (start_founds at c.requires.3)) (c.start_counts-end.ensures d _ _ setting _ at) in
-    let pre = c.requires in (_, _, _, _, _, _, _, closes pre.0 pre.1 pre.2)
+    (_, _, _, _, _, _, _, closes c.requires.0 c.requires.1 c.requires.2)
 
 pub run-rounds-requires : goal.run-rounds-requires
 run-rounds-requires c =
-    let closes : let a = c.args in let last = c.start_counts-end.new.values.1 in (d : Definition) (setting : List ℕ) → AtStart d a.rules.now a.literals.now a.starts.now a.entries.now setting a.counts.now a.values.now a.levels.now a.queue.now → Closes d a.rules.now a.literals.now a.starts.now a.entries.now setting 0 true 0 c.start_counts-end.result 1 c.found.new.1.1.1.1.1.0 last.0 last.1.0 a.levels.now last.1.1.0 =
+    let closes : let last = c.start_counts-end.new.counts in (d : Definition) (setting : List ℕ) → AtStart d c.args.rules.now c.args.literals.now c.args.starts.now c.args.entries.now setting c.args.counts.now c.args.values.now c.args.levels.now c.args.queue.now → Closes d c.args.rules.now c.args.literals.now c.args.starts.now c.args.entries.now setting 0 true 0 c.start_counts-end.result 1 c.found.new.marks last.0 last.1.0 c.args.levels.now last.1.1.0 =
         λ d setting at. start_closes at.lends (c.found.ensures d setting 0 (start_founds at c.requires.3)) (c.start_counts-end.ensures d _ _ setting _ at) in
-    let runs : let a = c.args in let last = c.close-front.new.levels.1.1.1.1.1 in (d : Definition) (setting : List ℕ) → AtStart d a.rules.now a.literals.now a.starts.now a.entries.now setting a.counts.now a.values.now a.levels.now a.queue.now → Runs d a.rules.now a.literals.now a.starts.now a.entries.now setting 0 c.close-front.result.from c.close-front.result.end c.close-front.result.due c.start_counts-end.new.values.1.0 c.found.new.1.1.1.1.1.0 last.0 last.1.0 last.1.1.0 =
+    let runs : let last = c.close-front.new.values in (d : Definition) (setting : List ℕ) → AtStart d c.args.rules.now c.args.literals.now c.args.starts.now c.args.entries.now setting c.args.counts.now c.args.values.now c.args.levels.now c.args.queue.now → Runs d c.args.rules.now c.args.literals.now c.args.starts.now c.args.entries.now setting 0 c.close-front.result.from c.close-front.result.end c.close-front.result.due c.start_counts-end.new.counts c.found.new.marks last.0 last.1.0 last.1.1.0 =
         λ d setting at. let closed = closes d setting at in
     start_runs closed (c.close-front.ensures d _ _ _ setting _ 0 closed) in
-    let pre = c.requires in (_, _, runs pre.0 pre.1 pre.2)
+    (_, _, runs c.requires.0 c.requires.1 c.requires.2)
 
 pub shape_of-counts : goal.shape_of-counts
-shape_of-counts c = c.run-rounds.auto.founded.1.1.1.1.1.1.0 ∙ c.start_counts-end.auto.values.1.0
+shape_of-counts c = c.run-rounds.auto.counts ∙ c.start_counts-end.auto.counts
 
 pub shape_of-founded : goal.shape_of-founded
-shape_of-founded c = c.run-rounds.auto.founded.1.1.1.1.1.1.1.0 ∙ c.found.auto.1.1.1.1.1.0
+shape_of-founded c = c.run-rounds.auto.founded ∙ c.found.auto.marks
 
 pub shape_of-values : goal.shape_of-values
-shape_of-values c = c.run-rounds.auto.founded.1.1.1.1.1.1.1.1.0 ∙ c.close-front.auto.levels.1.1.1.1.1.0 ∙ c.start_counts-end.auto.values.1.1.0
+shape_of-values c = c.run-rounds.auto.values ∙ c.close-front.auto.values ∙ c.start_counts-end.auto.values
 
 pub shape_of-queue : goal.shape_of-queue
-shape_of-queue c = c.clear.auto.entries ∙ c.run-rounds.auto.founded.1.1.1.1.1.1.1.1.1.1.0 ∙ c.close-front.auto.levels.1.1.1.1.1.1.1.0 ∙ c.start_counts-end.auto.values.1.1.1.0
+shape_of-queue c = c.clear.auto.entries ∙ c.run-rounds.auto.queue ∙ c.close-front.auto.queue ∙ c.start_counts-end.auto.queue
 
 pub returns : goal.returns
 returns c =
-    let closes : let a = c.args in let last = c.start_counts-end.new.values.1 in (d : Definition) (setting : List ℕ) → AtStart d a.rules.now a.literals.now a.starts.now a.entries.now setting a.counts.now a.values.now a.levels.now a.queue.now → Closes d a.rules.now a.literals.now a.starts.now a.entries.now setting 0 true 0 c.start_counts-end.result 1 c.found.new.1.1.1.1.1.0 last.0 last.1.0 a.levels.now last.1.1.0 =
+    let closes : let last = c.start_counts-end.new.counts in (d : Definition) (setting : List ℕ) → AtStart d c.args.rules.now c.args.literals.now c.args.starts.now c.args.entries.now setting c.args.counts.now c.args.values.now c.args.levels.now c.args.queue.now → Closes d c.args.rules.now c.args.literals.now c.args.starts.now c.args.entries.now setting 0 true 0 c.start_counts-end.result 1 c.found.new.marks last.0 last.1.0 c.args.levels.now last.1.1.0 =
         λ d setting at. start_closes at.lends (c.found.ensures d setting 0 (start_founds at c.requires.3)) (c.start_counts-end.ensures d _ _ setting _ at) in
-    let runs : let a = c.args in let last = c.close-front.new.levels.1.1.1.1.1 in (d : Definition) (setting : List ℕ) → AtStart d a.rules.now a.literals.now a.starts.now a.entries.now setting a.counts.now a.values.now a.levels.now a.queue.now → Runs d a.rules.now a.literals.now a.starts.now a.entries.now setting 0 c.close-front.result.from c.close-front.result.end c.close-front.result.due c.start_counts-end.new.values.1.0 c.found.new.1.1.1.1.1.0 last.0 last.1.0 last.1.1.0 =
+    let runs : let last = c.close-front.new.values in (d : Definition) (setting : List ℕ) → AtStart d c.args.rules.now c.args.literals.now c.args.starts.now c.args.entries.now setting c.args.counts.now c.args.values.now c.args.levels.now c.args.queue.now → Runs d c.args.rules.now c.args.literals.now c.args.starts.now c.args.entries.now setting 0 c.close-front.result.from c.close-front.result.end c.close-front.result.due c.start_counts-end.new.counts c.found.new.marks last.0 last.1.0 last.1.1.0 =
         λ d setting at. let closed = closes d setting at in
     start_runs closed (c.close-front.ensures d _ _ _ setting _ 0 closed) in
     λ d setting at. run_clears at (c.run-rounds.ensures d setting (runs d setting at)) c.clear.ensures

@@ -12,30 +12,30 @@ pub loop-from-init : goal.loop-from-init
 loop-from-init c = (refl, refl, refl, refl, refl, λ d setting r. r)
 
 pub overflow_add-rounds : goal.overflow_add-rounds
-overflow_add-rounds c = let pre = c.requires in omega (arith, run_bound (c.loop-from.invariant.5 pre.0 pre.1 pre.2))
+overflow_add-rounds c = omega (arith, run_bound (c.loop-from.invariant.5 c.requires.0 c.requires.1 c.requires.2))
 
 pub overflow_add-rounds-in-loop-from : goal.overflow_add-rounds-in-loop-from
-overflow_add-rounds-in-loop-from c = let pre = c.requires in omega (arith, run_bound (c.loop-from.invariant.5 pre.0 pre.1 pre.2))
+overflow_add-rounds-in-loop-from c = omega (arith, run_bound (c.loop-from.invariant.5 c.requires.0 c.requires.1 c.requires.2))
 
 pub overflow_cast-rounds : goal.overflow_cast-rounds
-overflow_cast-rounds c = let pre = c.requires in omega (arith, run_bound (c.loop-from.invariant.5 pre.0 pre.1 pre.2))
+overflow_cast-rounds c = omega (arith, run_bound (c.loop-from.invariant.5 c.requires.0 c.requires.1 c.requires.2))
 
 pub advance-front-requires : goal.advance-front-requires
-advance-front-requires c = let pre = c.requires in (_, _, _, run_next (c.loop-from.invariant.5 pre.0 pre.1 pre.2) c.loop-from-test.true)
+advance-front-requires c = (_, _, _, run_next (c.loop-from.invariant.5 c.requires.0 c.requires.1 c.requires.2) c.loop-from-test.true)
 
 pub loop-from-smaller : goal.loop-from-smaller
 loop-from-smaller c =
-    let turned : let a = c.args in let last = c.advance-front.new.founded.1.1.1.1.1.1.1 in (d : Definition) (setting : List ℕ) → Runs d a.rules.now a.literals.now a.starts.now a.entries.now setting 0 a.first a.last a.renewed a.counts.now a.founded.now a.values.now a.levels.now a.queue.now → Runs d a.rules.now a.literals.now a.starts.now a.entries.now setting (c.loop-from.rounds + 1) c.advance-front.result.from c.advance-front.result.end c.advance-front.result.due last.0 last.1.0 last.1.1.0 last.1.1.1.0 last.1.1.1.1.0 =
+    let turned : let last = c.advance-front.new.counts in (d : Definition) (setting : List ℕ) → Runs d c.args.rules.now c.args.literals.now c.args.starts.now c.args.entries.now setting 0 c.args.first c.args.last c.args.renewed c.args.counts.now c.args.founded.now c.args.values.now c.args.levels.now c.args.queue.now → Runs d c.args.rules.now c.args.literals.now c.args.starts.now c.args.entries.now setting (c.loop-from.rounds + 1) c.advance-front.result.from c.advance-front.result.end c.advance-front.result.due last.0 last.1.0 last.1.1.0 last.1.1.1.0 last.1.1.1.1.0 =
         λ d setting r. let now = c.loop-from.invariant.5 d setting r in
-    run_turn now c.advance-front.auto.founded.1.1.1.1.1.1.1.1.0 (c.advance-front.ensures d setting _ (run_next now c.loop-from-test.true)) in
-    let pre = c.requires in omega (arith, run_bound (turned pre.0 pre.1 pre.2))
+    run_turn now c.advance-front.auto.founded (c.advance-front.ensures d setting _ (run_next now c.loop-from-test.true)) in
+    omega (arith, run_bound (turned c.requires.0 c.requires.1 c.requires.2))
 
 pub loop-from-preserved : goal.loop-from-preserved
 loop-from-preserved c =
-    let turned : let a = c.args in let last = c.advance-front.new.founded.1.1.1.1.1.1.1 in (d : Definition) (setting : List ℕ) → Runs d a.rules.now a.literals.now a.starts.now a.entries.now setting 0 a.first a.last a.renewed a.counts.now a.founded.now a.values.now a.levels.now a.queue.now → Runs d a.rules.now a.literals.now a.starts.now a.entries.now setting (c.loop-from.rounds + 1) c.advance-front.result.from c.advance-front.result.end c.advance-front.result.due last.0 last.1.0 last.1.1.0 last.1.1.1.0 last.1.1.1.1.0 =
+    let turned : let last = c.advance-front.new.counts in (d : Definition) (setting : List ℕ) → Runs d c.args.rules.now c.args.literals.now c.args.starts.now c.args.entries.now setting 0 c.args.first c.args.last c.args.renewed c.args.counts.now c.args.founded.now c.args.values.now c.args.levels.now c.args.queue.now → Runs d c.args.rules.now c.args.literals.now c.args.starts.now c.args.entries.now setting (c.loop-from.rounds + 1) c.advance-front.result.from c.advance-front.result.end c.advance-front.result.due last.0 last.1.0 last.1.1.0 last.1.1.1.0 last.1.1.1.1.0 =
         λ d setting r. let now = c.loop-from.invariant.5 d setting r in
-    run_turn now c.advance-front.auto.founded.1.1.1.1.1.1.1.1.0 (c.advance-front.ensures d setting _ (run_next now c.loop-from-test.true)) in
-    let inv = c.loop-from.invariant in let kept = c.advance-front.auto.founded.1.1.1.1.1.1.1 in (kept.0 ∙ inv.0, kept.1.0 ∙ inv.1, kept.1.1.0 ∙ inv.2, kept.1.1.1.0 ∙ inv.3, kept.1.1.1.1.0 ∙ inv.4, λ d setting r. turned d setting r)
+    run_turn now c.advance-front.auto.founded (c.advance-front.ensures d setting _ (run_next now c.loop-from-test.true)) in
+    let inv = c.loop-from.invariant in let kept = c.advance-front.auto.counts in (kept.0 ∙ inv.0, kept.1.0 ∙ inv.1, kept.1.1.0 ∙ inv.2, kept.1.1.1.0 ∙ inv.3, kept.1.1.1.1.0 ∙ inv.4, λ d setting r. turned d setting r)
 
 pub shape_of-counts : goal.shape_of-counts
 shape_of-counts c = c.loop-from.invariant.0

@@ -7,5 +7,4 @@ pub overflow_cast-result : goal.overflow_cast-result
 overflow_cast-result c = omega (arith, c.shared_slice_known-5-1.given c.atom_of-atom.result)
 
 pub returns : goal.returns
-returns c = let pre = c.requires in
-    rw (blocks_read _ _ _ _ pre.1.value pre.2, ← c.atom_of-atom.ensures)
+returns c = rw (blocks_read _ _ _ _ c.requires.1.value c.requires.2, ← c.atom_of-atom.ensures)

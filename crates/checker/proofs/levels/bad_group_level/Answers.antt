@@ -16,6 +16,5 @@ mark_defined-requires c = let pre = c.requires.0 in
 pub returns : goal.returns
 unfolding definition_of
 returns c = λ literals.
-    let a = c.args in
-    let readable = defined_readable a.rules.now literals a.marks.now a.levels.now _ a.group c.requires.0 c.requires.1 c.mark_defined.ensures in
+    let readable = defined_readable c.args.rules.now literals c.args.marks.now c.args.levels.now _ c.args.group c.requires.0 c.requires.1 c.mark_defined.ensures in
     c.bad_level.ensures ∙ levels_search readable (defined_count_lem readable ∙ sym c.count_marked-most.ensures)

@@ -7,6 +7,5 @@ use Rattle.checker.proofs.levels.levels_of.Goals as goal
 
 pub returns : goal.returns
 unfolding group_levels
-returns c = let a = c.args in
-    let e : a.group * a.atoms + a.atoms - a.group * a.atoms ≡ a.atoms = omega arith in
+returns c = let e : c.args.group * c.args.atoms + c.args.atoms - c.args.group * c.args.atoms ≡ c.args.atoms = omega arith in
     rw e

@@ -5,7 +5,7 @@ use Rattle.wellfounded.proofs.Scan.{part_scannable, part_body}
 use Rattle.checker.proofs.support.body_supports.Goals as goal
 
 pub literals_support-requires : goal.literals_support-requires
-literals_support-requires c = let pre = c.requires in (part_scannable pre.0, pre.1)
+literals_support-requires c = (part_scannable c.requires.0, c.requires.1)
 
 pub returns : goal.returns
 returns c = c.literals_support.ensures ∙ ap (all _) (part_body _ _ _)

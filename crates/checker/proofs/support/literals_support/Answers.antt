@@ -9,8 +9,7 @@ pub loop-i-init : goal.loop-i-init
 loop-i-init c = scan_start
 
 pub literal_supports-requires : goal.literal_supports-requires
-literal_supports-requires c = let pre = c.requires in
-    let known = pre.0.known c.loop-i.i (omega arith) in
+literal_supports-requires c = let known = c.requires.0.known c.loop-i.i (omega arith) in
     record { value = known; level = omega arith }
 
 pub returns-then-not-literal_supports : goal.returns-then-not-literal_supports

@@ -16,19 +16,19 @@ returns-then-not-word_at c = sym (negated_unopened _ _ (sym c.word_at.ensures �
 
 pub overflow_add-at : goal.overflow_add-at
 overflow_add-at c =
-    let opened : let a = c.args in word_at a.text.now a.at not_word ≡ true =
+    let opened : word_at c.args.text.now c.args.at not_word ≡ true =
         sym c.word_at.ensures ∙ c.if-not-word_at.false in
     let l = (word_got _ _ _ (opened)).1 in search rules
 
 pub returns-in_default : goal.returns-in_default
 returns-in_default c =
-    let opened : let a = c.args in word_at a.text.now a.at not_word ≡ true =
+    let opened : word_at c.args.text.now c.args.at not_word ≡ true =
         sym c.word_at.ensures ∙ c.if-not-word_at.false in
     sym (negated_atomless _ _ (opened) (sym c.read_number.ensures ∙ c.in_default.is))
 
 pub returns-then-not-byte_at : goal.returns-then-not-byte_at
 returns-then-not-byte_at c =
-    let opened : let a = c.args in word_at a.text.now a.at not_word ≡ true =
+    let opened : word_at c.args.text.now c.args.at not_word ≡ true =
         sym c.word_at.ensures ∙ c.if-not-word_at.false in
     sym (negated_unclosed _ _ (opened)
     (sym c.read_number.ensures ∙ c.in-Read.is)
@@ -51,7 +51,7 @@ overflow_add-result-2 c = let l = (byte_got _ _ _ (sym c.byte_at.ensures ∙ c.i
 
 pub returns : goal.returns
 returns c =
-    let opened : let a = c.args in word_at a.text.now a.at not_word ≡ true =
+    let opened : word_at c.args.text.now c.args.at not_word ≡ true =
         sym c.word_at.ensures ∙ c.if-not-word_at.false in
     sym (negated_closed _ _ (opened)
     (sym c.read_number.ensures ∙ c.in-Read.is)

@@ -18,21 +18,21 @@ returns-then-not-byte_at c = sym (term_unopened _ _ (sym c.byte_at.ensures ∙ c
 
 pub overflow_add-at : goal.overflow_add-at
 overflow_add-at c =
-    let opened : let a = c.args in word_at a.text.now a.at (40 ∷ []) ≡ true =
+    let opened : word_at c.args.text.now c.args.at (40 ∷ []) ≡ true =
         sym c.byte_at.ensures ∙ c.if-not-byte_at.false in
     let l = (byte_got _ _ _ (opened)).1 in search rules
 
 pub returns-in_default : goal.returns-in_default
 returns-in_default c =
-    let opened : let a = c.args in word_at a.text.now a.at (40 ∷ []) ≡ true =
+    let opened : word_at c.args.text.now c.args.at (40 ∷ []) ≡ true =
         sym c.byte_at.ensures ∙ c.if-not-byte_at.false in
     sym (term_weightless _ _ (opened) (sym c.read_signed.ensures ∙ c.in_default.is))
 
 pub returns-then-not-byte_at-2 : goal.returns-then-not-byte_at-2
 returns-then-not-byte_at-2 c =
-    let opened : let a = c.args in word_at a.text.now a.at (40 ∷ []) ≡ true =
+    let opened : word_at c.args.text.now c.args.at (40 ∷ []) ≡ true =
         sym c.byte_at.ensures ∙ c.if-not-byte_at.false in
-    let weighed : let a = c.args in let v = c.minutes-1.given.0 in signed_at a.text.now (a.at + 1) ≡ Whole v.0 v.1.0 =
+    let weighed : let v = c.minutes-1.given.0 in signed_at c.args.text.now (c.args.at + 1) ≡ Whole v.0 v.1.0 =
         sym c.read_signed.ensures ∙ c.in-Whole.is in
     sym (term_unspaced _ _ (opened) (weighed)
     (sym c.byte_at-2.ensures ∙ c.if-not-byte_at-2.true))
@@ -45,9 +45,9 @@ overflow_add-after c =
 
 pub returns-in_default-read_literal : goal.returns-in_default-read_literal
 returns-in_default-read_literal c =
-    let opened : let a = c.args in word_at a.text.now a.at (40 ∷ []) ≡ true =
+    let opened : word_at c.args.text.now c.args.at (40 ∷ []) ≡ true =
         sym c.byte_at.ensures ∙ c.if-not-byte_at.false in
-    let weighed : let a = c.args in let v = c.minutes-1.given.0 in signed_at a.text.now (a.at + 1) ≡ Whole v.0 v.1.0 =
+    let weighed : let v = c.minutes-1.given.0 in signed_at c.args.text.now (c.args.at + 1) ≡ Whole v.0 v.1.0 =
         sym c.read_signed.ensures ∙ c.in-Whole.is in
     let spaced : let v = c.minutes-1.given.0 in word_at c.args.text.now v.1.0 (32 ∷ []) ≡ true =
         sym c.byte_at-2.ensures ∙ c.if-not-byte_at-2.false in
@@ -56,9 +56,9 @@ returns-in_default-read_literal c =
 
 pub returns-then-not-byte_at-3 : goal.returns-then-not-byte_at-3
 returns-then-not-byte_at-3 c =
-    let opened : let a = c.args in word_at a.text.now a.at (40 ∷ []) ≡ true =
+    let opened : word_at c.args.text.now c.args.at (40 ∷ []) ≡ true =
         sym c.byte_at.ensures ∙ c.if-not-byte_at.false in
-    let weighed : let a = c.args in let v = c.minutes-1.given.0 in signed_at a.text.now (a.at + 1) ≡ Whole v.0 v.1.0 =
+    let weighed : let v = c.minutes-1.given.0 in signed_at c.args.text.now (c.args.at + 1) ≡ Whole v.0 v.1.0 =
         sym c.read_signed.ensures ∙ c.in-Whole.is in
     let spaced : let v = c.minutes-1.given.0 in word_at c.args.text.now v.1.0 (32 ∷ []) ≡ true =
         sym c.byte_at-2.ensures ∙ c.if-not-byte_at-2.false in
@@ -71,9 +71,9 @@ overflow_add-result c = let l = (byte_got _ _ _ (sym c.byte_at-3.ensures ∙ c.i
 
 pub returns : goal.returns
 returns c =
-    let opened : let a = c.args in word_at a.text.now a.at (40 ∷ []) ≡ true =
+    let opened : word_at c.args.text.now c.args.at (40 ∷ []) ≡ true =
         sym c.byte_at.ensures ∙ c.if-not-byte_at.false in
-    let weighed : let a = c.args in let v = c.minutes-1.given.0 in signed_at a.text.now (a.at + 1) ≡ Whole v.0 v.1.0 =
+    let weighed : let v = c.minutes-1.given.0 in signed_at c.args.text.now (c.args.at + 1) ≡ Whole v.0 v.1.0 =
         sym c.read_signed.ensures ∙ c.in-Whole.is in
     let spaced : let v = c.minutes-1.given.0 in word_at c.args.text.now v.1.0 (32 ∷ []) ≡ true =
         sym c.byte_at-2.ensures ∙ c.if-not-byte_at-2.false in

@@ -4,5 +4,4 @@ use Rattle.lists.proofs.stores.store_rule.Goals as goal
 
 pub returns : goal.returns
 returns c = λ small.
-    let pre = c.requires in
-    rule_row_lem _ _ _ _ _ _ _ _ c.store.ensures c.store-2.ensures c.store-3.ensures small pre.1 pre.2
+    rule_row_lem _ _ _ _ _ _ _ _ c.store.ensures c.store-2.ensures c.store-3.ensures small c.requires.1 c.requires.2

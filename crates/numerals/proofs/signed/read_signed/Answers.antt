@@ -16,20 +16,20 @@ use Rattle.numerals.proofs.signed.read_signed.Goals as goal
 pub overflow_add-at : goal.overflow_add-at
 overflow_add-at c =
     let has-minus : minus_at c.args.text.now c.args.at ≡ true =
-        sym c.minus_at.ensures ∙ c.if-minus_at.true in
+    sym c.minus_at.ensures ∙ c.if-minus_at.true in
     let l = minus_inside _ _ (has-minus) in search rules
 
 pub returns-in_default : goal.returns-in_default
 returns-in_default c =
     let has-minus : minus_at c.args.text.now c.args.at ≡ true =
-        sym c.minus_at.ensures ∙ c.if-minus_at.true in
+    sym c.minus_at.ensures ∙ c.if-minus_at.true in
     let minus = has-minus in
     sym (signed_negated _ _ (minus_inside _ _ minus) minus ∙ negated_refused _ (sym c.read_number.ensures ∙ c.in_default.is))
 
 pub returns-then-value-eq0 : goal.returns-then-value-eq0
 returns-then-value-eq0 c =
     let has-minus : minus_at c.args.text.now c.args.at ≡ true =
-        sym c.minus_at.ensures ∙ c.if-minus_at.true in
+    sym c.minus_at.ensures ∙ c.if-minus_at.true in
     let minus = has-minus in
     sym (signed_negated _ _ (minus_inside _ _ minus) minus ∙
     negated_zero _ _ _ (sym c.read_number.ensures ∙ c.in-Read.is) c.if-value-eq0.true)
@@ -37,23 +37,23 @@ returns-then-value-eq0 c =
 pub overflow_cast-result : goal.overflow_cast-result
 overflow_cast-result c =
     let small : c.in-Read.value ≤ beyond_limits =
-        number_limit _ _ _ _ (sym c.read_number.ensures ∙ c.in-Read.is) in
+    number_limit _ _ _ _ (sym c.read_number.ensures ∙ c.in-Read.is) in
     omega (arith, small)
 
 pub overflow_sub-result : goal.overflow_sub-result
 overflow_sub-result c =
     let signed_is : to_z w32 c.in-Read.value ≡ pos c.in-Read.value =
-        to_z_pos w32 (cast-t11 c).sfits in
+    to_z_pos w32 (cast-t11 c).sfits in
     let small : c.in-Read.value ≤ beyond_limits =
-        number_limit _ _ _ _ (sym c.read_number.ensures ∙ c.in-Read.is) in
+    number_limit _ _ _ _ (sym c.read_number.ensures ∙ c.in-Read.is) in
     rw (signed_is) (below_zero_fits _ (small))
 
 pub returns-then-minus_at : goal.returns-then-minus_at
 returns-then-minus_at c =
     let has-minus : minus_at c.args.text.now c.args.at ≡ true =
-        sym c.minus_at.ensures ∙ c.if-minus_at.true in
+    sym c.minus_at.ensures ∙ c.if-minus_at.true in
     let signed_is : to_z w32 c.in-Read.value ≡ pos c.in-Read.value =
-        to_z_pos w32 (cast-t11 c).sfits in
+    to_z_pos w32 (cast-t11 c).sfits in
     let minus = has-minus in
     rw (to_z-of_z (sub-t12 c), signed_is, below_zero c.in-Read.value)
     (sym (signed_negated _ _ (minus_inside _ _ minus) minus ∙
@@ -66,7 +66,7 @@ returns-in_default-read_number c = sym (signed_plain _ _ (sym c.minus_at.ensures
 pub overflow_cast-result-2 : goal.overflow_cast-result-2
 overflow_cast-result-2 c =
     let small_plain : c.in-Read-read_number.value ≤ beyond_limits =
-        number_limit _ _ _ _ (sym c.read_number-2.ensures ∙ c.in-Read-read_number.is) in
+    number_limit _ _ _ _ (sym c.read_number-2.ensures ∙ c.in-Read-read_number.is) in
     omega (arith, small_plain)
 
 pub returns : goal.returns

@@ -22,23 +22,23 @@ true_literal-literal-requires c = part_atom c.requires c.loop-i-test.true c.loop
 pub offset_bounds-starts-literal : goal.offset_bounds-starts-literal
 offset_bounds-starts-literal c =
     let literal-is : let a = c.args in c.true_literal-literal.result ≡ true_literal a.values.now (get_or a.queue.now c.loop-i.i 0) =
-        c.true_literal-literal.ensures
+    c.true_literal-literal.ensures
     ∙ part_key c.requires c.loop-i-test.true c.loop-i.invariant.1 in
     let literal-starts : c.true_literal-literal.result + 1 < length c.args.starts.now =
-        rw (literal-is)
+    rw (literal-is)
     (part_starts c.requires c.loop-i-test.true c.loop-i.invariant.1) in
     let literal_small : c.true_literal-literal.result + 1 ≤ 131071 =
-        let pre = c.requires in
+    let pre = c.requires in
     omega (arith, literal-starts, pre.leads.starts_long, pre.steady.small) in
     omega (arith, literal_small)
 
 pub bounds-starts-literal : goal.bounds-starts-literal
 bounds-starts-literal c =
     let literal-is : let a = c.args in c.true_literal-literal.result ≡ true_literal a.values.now (get_or a.queue.now c.loop-i.i 0) =
-        c.true_literal-literal.ensures
+    c.true_literal-literal.ensures
     ∙ part_key c.requires c.loop-i-test.true c.loop-i.invariant.1 in
     let literal-starts : c.true_literal-literal.result + 1 < length c.args.starts.now =
-        rw (literal-is)
+    rw (literal-is)
     (part_starts c.requires c.loop-i-test.true c.loop-i.invariant.1) in
     omega (arith, literal-starts)
 
@@ -48,36 +48,36 @@ overflow_cast-first c = omega (arith, c.shared_slice_known-in-loop-i-1.given c.t
 pub overflow_add-last : goal.overflow_add-last
 overflow_add-last c =
     let literal-is : let a = c.args in c.true_literal-literal.result ≡ true_literal a.values.now (get_or a.queue.now c.loop-i.i 0) =
-        c.true_literal-literal.ensures
+    c.true_literal-literal.ensures
     ∙ part_key c.requires c.loop-i-test.true c.loop-i.invariant.1 in
     let literal-starts : c.true_literal-literal.result + 1 < length c.args.starts.now =
-        rw (literal-is)
+    rw (literal-is)
     (part_starts c.requires c.loop-i-test.true c.loop-i.invariant.1) in
     let literal_small : c.true_literal-literal.result + 1 ≤ 131071 =
-        let pre = c.requires in
+    let pre = c.requires in
     omega (arith, literal-starts, pre.leads.starts_long, pre.steady.small) in
     omega (arith, literal_small)
 
 pub offset_bounds-starts-literal-in-loop-i : goal.offset_bounds-starts-literal-in-loop-i
 offset_bounds-starts-literal-in-loop-i c =
     let literal-is : let a = c.args in c.true_literal-literal.result ≡ true_literal a.values.now (get_or a.queue.now c.loop-i.i 0) =
-        c.true_literal-literal.ensures
+    c.true_literal-literal.ensures
     ∙ part_key c.requires c.loop-i-test.true c.loop-i.invariant.1 in
     let literal-starts : c.true_literal-literal.result + 1 < length c.args.starts.now =
-        rw (literal-is)
+    rw (literal-is)
     (part_starts c.requires c.loop-i-test.true c.loop-i.invariant.1) in
     let literal_small : c.true_literal-literal.result + 1 ≤ 131071 =
-        let pre = c.requires in
+    let pre = c.requires in
     omega (arith, literal-starts, pre.leads.starts_long, pre.steady.small) in
     omega (arith, literal_small)
 
 pub bounds-starts-literal-in-loop-i : goal.bounds-starts-literal-in-loop-i
 bounds-starts-literal-in-loop-i c =
     let literal-is : let a = c.args in c.true_literal-literal.result ≡ true_literal a.values.now (get_or a.queue.now c.loop-i.i 0) =
-        c.true_literal-literal.ensures
+    c.true_literal-literal.ensures
     ∙ part_key c.requires c.loop-i-test.true c.loop-i.invariant.1 in
     let literal-starts : c.true_literal-literal.result + 1 < length c.args.starts.now =
-        rw (literal-is)
+    rw (literal-is)
     (part_starts c.requires c.loop-i-test.true c.loop-i.invariant.1) in
     literal-starts
 
@@ -87,14 +87,14 @@ overflow_cast-last c = omega (arith, c.shared_slice_known-in-loop-i-2-1.given (c
 pub lower_rows-behind-requires : goal.lower_rows-behind-requires
 lower_rows-behind-requires c =
     let literal-is : let a = c.args in c.true_literal-literal.result ≡ true_literal a.values.now (get_or a.queue.now c.loop-i.i 0) =
-        c.true_literal-literal.ensures
+    c.true_literal-literal.ensures
     ∙ part_key c.requires c.loop-i-test.true c.loop-i.invariant.1 in
     rw (literal-is) (part_fits c.requires c.loop-i-test.true c.loop-i.invariant.1)
 
 pub loop-i-preserved : goal.loop-i-preserved
 loop-i-preserved c =
     let literal-is : let a = c.args in c.true_literal-literal.result ≡ true_literal a.values.now (get_or a.queue.now c.loop-i.i 0) =
-        c.true_literal-literal.ensures
+    c.true_literal-literal.ensures
     ∙ part_key c.requires c.loop-i-test.true c.loop-i.invariant.1 in
     (omega (arith, c.loop-i-test.true), part_turn c.requires c.loop-i-test.true c.loop-i.invariant.1 (rw (literal-is) at c.lower_rows-behind.ensures))
 

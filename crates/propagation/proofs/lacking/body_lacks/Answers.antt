@@ -20,21 +20,21 @@ bounds-table-literals c = c.requires.known _ (omega (arith, c.loop-place-test.tr
 pub overflow_cast-total-in-loop-place : goal.overflow_cast-total-in-loop-place
 overflow_cast-total-in-loop-place c =
     let one : get_or c.args.table.now (get_or c.args.literals.now c.loop-place.place 0) 0 ≤ 1 =
-        let pre = c.requires in
+    let pre = c.requires in
     pre.ones c.loop-place.place (omega (arith, c.loop-place-test.true, pre.within)) in
     omega (arith, one)
 
 pub overflow_add-total : goal.overflow_add-total
 overflow_add-total c =
     let one : get_or c.args.table.now (get_or c.args.literals.now c.loop-place.place 0) 0 ≤ 1 =
-        let pre = c.requires in
+    let pre = c.requires in
     pre.ones c.loop-place.place (omega (arith, c.loop-place-test.true, pre.within)) in
     omega (arith, one, c.loop-place.invariant.small, c.requires.few, c.loop-place-test.true)
 
 pub loop-place-preserved : goal.loop-place-preserved
 loop-place-preserved c =
     let one : get_or c.args.table.now (get_or c.args.literals.now c.loop-place.place 0) 0 ≤ 1 =
-        let pre = c.requires in
+    let pre = c.requires in
     pre.ones c.loop-place.place (omega (arith, c.loop-place-test.true, pre.within)) in
     adding_turn _ _ _ _ c.loop-place-test.true (one) c.loop-place.invariant
 

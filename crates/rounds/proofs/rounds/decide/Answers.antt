@@ -13,9 +13,7 @@ pub decide_atom-changed-requires : goal.decide_atom-changed-requires
 decide_atom-changed-requires c = (omega arith, deciding_room c.requires c.loop-atom.invariant)
 
 pub overflow_add-decided : goal.overflow_add-decided
-overflow_add-decided c = let args = c.args in
-    let turn = c.loop-atom in
-    omega (arith, turn.invariant.many, count_le turn.atom (decides args.values.now args.firing.now args.founded.now), atom_small c.decide_atom-changed.ensures)
+overflow_add-decided c = omega (arith, c.loop-atom.invariant.many, count_le c.loop-atom.atom (decides c.args.values.now c.args.firing.now c.args.founded.now), atom_small c.decide_atom-changed.ensures)
 
 pub loop-atom-preserved : goal.loop-atom-preserved
 loop-atom-preserved c = deciding_turn c.requires (omega arith) c.decide_atom-changed.ensures c.loop-atom.invariant

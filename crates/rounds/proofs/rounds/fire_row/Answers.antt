@@ -9,29 +9,26 @@ use Rattle.rounds.specs.internal.Firing.{row_fires}
 use Rattle.rounds.proofs.rounds.fire_row.Goals as goal
 
 pub bounds-values-head : goal.bounds-values-head
-bounds-values-head c = let pre = c.requires in omega (arith, pre.1.rows.heads _ pre.0)
+bounds-values-head c = omega (arith, c.requires.1.rows.heads _ c.requires.0)
 
 pub bounds-firing-head : goal.bounds-firing-head
-bounds-firing-head c = let pre = c.requires in omega (arith, pre.1.rows.heads _ pre.0)
+bounds-firing-head c = omega (arith, c.requires.1.rows.heads _ c.requires.0)
 
 pub returns-then-value-lt2 : goal.returns-then-value-lt2
 unfolding row_fires
-returns-then-value-lt2 c = let pre = c.requires in
-    let within = pre.1.rows.heads _ pre.0 in
+returns-then-value-lt2 c = let within = c.requires.1.rows.heads _ c.requires.0 in
     let head = c.rule_head-head.ensures.is in
     ⊎_elim (λ w. look_decided _ _ _ _ head _ (omega arith) (omega (arith, w.taken))) (λ w. look_again _ _ _ _ head _ (eqb-true _ _ w.1.taken)) c.then-value-lt2.branch
 
 pub body_true-requires : goal.body_true-requires
-body_true-requires c = let pre = c.requires in
-    record { within = omega (arith, pre.1.rows.within _ pre.0); known = pre.1.rows.known }
+body_true-requires c = record { within = omega (arith, c.requires.1.rows.within _ c.requires.0); known = c.requires.1.rows.known }
 
 pub bounds-firing-head-then-body_true : goal.bounds-firing-head-then-body_true
-bounds-firing-head-then-body_true c = let pre = c.requires in omega (arith, pre.1.rows.heads _ pre.0)
+bounds-firing-head-then-body_true c = omega (arith, c.requires.1.rows.heads _ c.requires.0)
 
 pub returns-then-body_true : goal.returns-then-body_true
 unfolding row_fires rule_body
-returns-then-body_true c = let pre = c.requires in
-    let within = pre.1.rows.heads _ pre.0 in
+returns-then-body_true c = let within = c.requires.1.rows.heads _ c.requires.0 in
     rw (← c.rule_start-start.ensures.is, ← c.rule_size-size.ensures.is)
     (look_marks _ _ _ _ c.rule_head-head.ensures.is _ (omega arith) (omega arith) (sym c.body_true.ensures ∙ c.if-body_true.true))
 

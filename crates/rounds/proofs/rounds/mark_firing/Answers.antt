@@ -9,8 +9,7 @@ pub loop-row-init : goal.loop-row-init
 loop-row-init c = (omega arith, marked_start _ _)
 
 pub fire_row-requires : goal.fire_row-requires
-fire_row-requires c = let pre = c.requires in
-    (omega arith, record { rows = pre.rows; room = omega (arith, pre.room, c.loop-row.invariant.1.long) })
+fire_row-requires c = (omega arith, record { rows = c.requires.rows; room = omega (arith, c.requires.room, c.loop-row.invariant.1.long) })
 
 pub loop-row-preserved : goal.loop-row-preserved
 loop-row-preserved c = (omega arith, rw c.fire_row.ensures (marked_look _ _ _ _ _ c.loop-row.invariant.1))

@@ -11,78 +11,69 @@ use Rattle.rounds.proofs.RoundStep.{at_fits, at_bound, at_small, stages_start, s
 use Rattle.rounds.proofs.stages.evaluate_stages.Goals as goal
 
 pub start_values-requires : goal.start_values-requires
-start_values-requires c = let pre = c.requires in
-    (omega (arith, pre.1.lends.few, pre.1.lends.long, pre.1.lends.room), pre.1.values_long)
+start_values-requires c = (omega (arith, c.requires.1.lends.few, c.requires.1.lends.long, c.requires.1.lends.room), c.requires.1.values_long)
 
 pub mark_negated-requires : goal.mark_negated-requires
 mark_negated-requires c = λ place l.
-    let pre = c.requires in
-    let known = pre.1.lends.rows.known place l in
-    omega (arith, pre.1.lends.few)
+    let known = c.requires.1.lends.rows.known place l in
+    omega (arith, c.requires.1.lends.few)
 
 pub mark_founded-requires : goal.mark_founded-requires
-mark_founded-requires c = let pre = c.requires in
-    let lends = pre.1.lends in
-    let long = c.start_values.auto.1.1.0 ∙ pre.1.values_long ∙ lends.long in
+mark_founded-requires c = let lends = c.requires.1.lends in
+    let long = c.start_values.auto.values ∙ c.requires.1.values_long ∙ lends.long in
     (record { rows = rw long lends.rows; room = rw long lends.few }, sym lends.room)
 
 pub loop-negated-init : goal.loop-negated-init
-loop-negated-init c = let pre = c.requires in (
+loop-negated-init c = (
       refl,
       refl,
       refl,
       λ d lends.
-          stages_start pre.1 lends c.start_values.ensures c.clear.ensures c.clear-2.ensures c.mark_negated.ensures
-          c.mark_founded.auto.1.1.1.1.0 c.mark_founded.ensures,
+          stages_start c.requires.1 lends c.start_values.ensures c.clear.ensures c.clear-2.ensures c.mark_negated.ensures
+          c.mark_founded.auto.founded c.mark_founded.ensures,
     )
 
 pub overflow_add-rounds : goal.overflow_add-rounds
-overflow_add-rounds c = let pre = c.requires in
-    omega (arith, at_small (c.loop-negated.invariant.3 pre.0 pre.1.lends))
+overflow_add-rounds c = omega (arith, at_small (c.loop-negated.invariant.3 c.requires.0 c.requires.1.lends))
 
 pub overflow_cast-rounds : goal.overflow_cast-rounds
-overflow_cast-rounds c = let pre = c.requires in
-    omega (arith, at_small (c.loop-negated.invariant.3 pre.0 pre.1.lends))
+overflow_cast-rounds c = omega (arith, at_small (c.loop-negated.invariant.3 c.requires.0 c.requires.1.lends))
 
 pub slice_bounds-round-end-in-loop-negated : goal.slice_bounds-round-end-in-loop-negated
-slice_bounds-round-end-in-loop-negated c = let pre = c.requires in
-    search (rules, c.loop-negated.invariant.3 pre.0 pre.1.lends)
+slice_bounds-round-end-in-loop-negated c = search (rules, c.loop-negated.invariant.3 c.requires.0 c.requires.1.lends)
 
 pub round-requires : goal.round-requires
-round-requires c = let pre = c.requires in
-    at_fits (c.loop-negated.invariant.3 pre.0 pre.1.lends)
+round-requires c = at_fits (c.loop-negated.invariant.3 c.requires.0 c.requires.1.lends)
 
 pub overflow_add-rounds-in-loop-negated : goal.overflow_add-rounds-in-loop-negated
-overflow_add-rounds-in-loop-negated c = let pre = c.requires in
-    omega (arith, at_small (c.loop-negated.invariant.3 pre.0 pre.1.lends))
+overflow_add-rounds-in-loop-negated c = omega (arith, at_small (c.loop-negated.invariant.3 c.requires.0 c.requires.1.lends))
 
 pub loop-negated-smaller : goal.loop-negated-smaller
 loop-negated-smaller c =
-    let done : let negated = c.mark_negated.new.1.0 in let a = c.args in let last = c.round.new.values.1.1.1.1 in (d : Definition) → Lends d a.rules.now a.literals.now a.defined.now a.setting.now → RoundDone d a.rules.now a.literals.now a.setting.now c.loop-negated.rounds a.defined.now negated last.0 last.1.0 last.1.1.0 last.1.1.1.0 c.round.result =
+    let done : let negated = c.mark_negated.new.marks in let last = c.round.new.founded in (d : Definition) → Lends d c.args.rules.now c.args.literals.now c.args.defined.now c.args.setting.now → RoundDone d c.args.rules.now c.args.literals.now c.args.setting.now c.loop-negated.rounds c.args.defined.now negated last.0 last.1.0 last.1.1.0 last.1.1.1.0 c.round.result =
         λ d lends. c.round.ensures d _ _ (c.loop-negated.invariant.3 d lends) (sym (add-one _)) in
-    let pre = c.requires in
-    let next = at_bound (stages_turn (done pre.0 pre.1.lends) c.loop-negated-test.true) in
+    let next = at_bound (stages_turn (done c.requires.0 c.requires.1.lends) c.loop-negated-test.true) in
     omega arith
 
 pub loop-negated-preserved : goal.loop-negated-preserved
 loop-negated-preserved c =
-    let done : let negated = c.mark_negated.new.1.0 in let a = c.args in let last = c.round.new.values.1.1.1.1 in (d : Definition) → Lends d a.rules.now a.literals.now a.defined.now a.setting.now → RoundDone d a.rules.now a.literals.now a.setting.now c.loop-negated.rounds a.defined.now negated last.0 last.1.0 last.1.1.0 last.1.1.1.0 c.round.result =
+    let done : let negated = c.mark_negated.new.marks in let last = c.round.new.founded in (d : Definition) → Lends d c.args.rules.now c.args.literals.now c.args.defined.now c.args.setting.now → RoundDone d c.args.rules.now c.args.literals.now c.args.setting.now c.loop-negated.rounds c.args.defined.now negated last.0 last.1.0 last.1.1.0 last.1.1.1.0 c.round.result =
         λ d lends. c.round.ensures d _ _ (c.loop-negated.invariant.3 d lends) (sym (add-one _)) in
     let inv = c.loop-negated.invariant in
-    let kept = c.round.auto.values.1.1.1.1.1 in
+    let kept = c.round.auto.values in
     (kept.0 ∙ inv.0, kept.1.0 ∙ inv.1, kept.1.1.0 ∙ inv.2, λ d lends. stages_turn (done d lends) c.loop-negated-test.true)
 
 pub shape_of-values : goal.shape_of-values
-shape_of-values c = c.round.auto.values.1.1.1.1.1.0 ∙ c.loop-negated.invariant.0 ∙ c.start_values.auto.1.1.0
+shape_of-values c = c.round.auto.values ∙ c.loop-negated.invariant.0 ∙ c.start_values.auto.values
 
 pub shape_of-levels : goal.shape_of-levels
-shape_of-levels c = c.round.auto.values.1.1.1.1.1.1.0 ∙ c.loop-negated.invariant.1 ∙ c.clear.auto.entries
+shape_of-levels c = c.round.auto.levels ∙ c.loop-negated.invariant.1 ∙ c.clear.auto.entries
 
 pub shape_of-work : goal.shape_of-work
-shape_of-work c = c.round.auto.values.1.1.1.1.1.1.1.0 ∙ c.loop-negated.invariant.2 ∙ c.clear-2.auto.entries
+shape_of-work c = c.round.auto.work ∙ c.loop-negated.invariant.2 ∙ c.clear-2.auto.entries
 
 pub returns : goal.returns
 returns c =
-    let done : let negated = c.mark_negated.new.1.0 in let a = c.args in let last = c.round.new.values.1.1.1.1 in (d : Definition) → Lends d a.rules.now a.literals.now a.defined.now a.setting.now → RoundDone d a.rules.now a.literals.now a.setting.now c.loop-negated.rounds a.defined.now negated last.0 last.1.0 last.1.1.0 last.1.1.1.0 c.round.result =
+    let done : let negated = c.mark_negated.new.marks in let last = c.round.new.founded in (d : Definition) → Lends d c.args.rules.now c.args.literals.now c.args.defined.now c.args.setting.now → RoundDone d c.args.rules.now c.args.literals.now c.args.setting.now c.loop-negated.rounds c.args.defined.now negated last.0 last.1.0 last.1.1.0 last.1.1.1.0 c.round.result =
         λ d lends. c.round.ensures d _ _ (c.loop-negated.invariant.3 d lends) (sym (add-one _)) in
     λ d ready. stages_end (done d ready.lends) c.loop-negated-test.false

@@ -9,14 +9,13 @@ returns-then-decided-eq0 c = λ d setting k at so.
     round_last at c.mark_firing.ensures c.decide-changed.ensures c.clear.ensures so c.if-decided-eq0.true
 
 pub mark_founded-requires : goal.mark_founded-requires
-mark_founded-requires c = let pre = c.requires in
-    let long = c.decide-changed.auto.levels.1.1.1.0 in
-    (record { rows = rw long pre.rows; room = rw long pre.founded_room }, sym pre.defined_room)
+mark_founded-requires c = let long = c.decide-changed.auto.values in
+    (record { rows = rw long c.requires.rows; room = rw long c.requires.founded_room }, sym c.requires.defined_room)
 
 pub returns-then-renewed : goal.returns-then-renewed
 returns-then-renewed c = λ d setting k at so.
     round_renewed at c.mark_firing.ensures c.decide-changed.ensures c.clear.ensures so c.if-decided-eq0.false
-    c.mark_founded.auto.1.1.1.1.0 c.mark_founded.ensures
+    c.mark_founded.auto.founded c.mark_founded.ensures
 
 pub returns-else-renewed : goal.returns-else-renewed
 returns-else-renewed c = λ d setting k at so.

@@ -10,6 +10,6 @@ pub terms_sum-requires : goal.terms_sum-requires
 terms_sum-requires c = terms_part c.requires
 
 pub returns : goal.returns
-returns c = to_z-of_z {w = w32} {z = c.terms_sum.result} (record { sfits = c.terms_sum.type-inv })
+returns c = to_z-of_z {w = w32} {z = c.terms_sum.result} (record { sfits = c.terms_sum.type_inv })
     ∙ c.terms_sum.ensures
     ∙ ap (load_sum _) (part_terms _ _ _ _)

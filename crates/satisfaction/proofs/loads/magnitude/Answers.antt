@@ -15,13 +15,13 @@ overflow_cast-result c = let f = c.ranges.minutes in rw (to_z-of_z f) (sfits_wid
 pub overflow_sub-result : goal.overflow_sub-result
 overflow_sub-result c =
     let difference : pos 0 -ℤ to_z w32 (of_z w32 (to_z w16 (of_z w16 c.args.minutes))) ≡ pos (nat_abs c.args.minutes) =
-        let f = c.ranges.minutes in rw (to_z-of_z (cast-result c), to_z-of_z f) (is_negative f c.if-minutes-lt0.true) in
+    let f = c.ranges.minutes in rw (to_z-of_z (cast-result c), to_z-of_z f) (is_negative f c.if-minutes-lt0.true) in
     rw (difference) (omega (arith, minutes_most c.ranges.minutes))
 
 pub overflow_cast-result-then-minutes-lt0 : goal.overflow_cast-result-then-minutes-lt0
 overflow_cast-result-then-minutes-lt0 c =
     let difference : pos 0 -ℤ to_z w32 (of_z w32 (to_z w16 (of_z w16 c.args.minutes))) ≡ pos (nat_abs c.args.minutes) =
-        let f = c.ranges.minutes in rw (to_z-of_z (cast-result c), to_z-of_z f) (is_negative f c.if-minutes-lt0.true) in
+    let f = c.ranges.minutes in rw (to_z-of_z (cast-result c), to_z-of_z f) (is_negative f c.if-minutes-lt0.true) in
     rw (to_z-of_z (sub-result c), difference) (tt, omega (arith, minutes_most c.ranges.minutes))
 
 pub overflow_cast-result-else-minutes-lt0 : goal.overflow_cast-result-else-minutes-lt0
@@ -30,5 +30,5 @@ overflow_cast-result-else-minutes-lt0 c = let f = c.ranges.minutes in rw (to_z-o
 pub returns-then-minutes-lt0 : goal.returns-then-minutes-lt0
 returns-then-minutes-lt0 c =
     let difference : pos 0 -ℤ to_z w32 (of_z w32 (to_z w16 (of_z w16 c.args.minutes))) ≡ pos (nat_abs c.args.minutes) =
-        let f = c.ranges.minutes in rw (to_z-of_z (cast-result c), to_z-of_z f) (is_negative f c.if-minutes-lt0.true) in
+    let f = c.ranges.minutes in rw (to_z-of_z (cast-result c), to_z-of_z f) (is_negative f c.if-minutes-lt0.true) in
     rw (to_z-of_z (sub-result c), difference)

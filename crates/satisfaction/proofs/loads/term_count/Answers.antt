@@ -17,16 +17,16 @@ literal_true-counted-requires c = c.requires.known _ (omega arith)
 
 pub overflow_mul-result : goal.overflow_mul-result
 overflow_mul-result c =
-    let fits : let a = c.args in SFits w16 (get_or a.minutes.now a.place (pos 0)) =
-        record { sfits = c.tenths_of-arg-1.given } in
-    let product : let a = c.args in SmallCount (term_count a.values.now (term_at a.load-literals.now a.minutes.now a.place)) (to_z w32 (of_z w32 c.tenths_of.result) *ℤ to_z w32 (bool_byte c.literal_true-counted.result)) =
-        term_times _ _ _ _ _ c.literal_true-counted.ensures (counted_back (rw (to_z-of_z (fits)) at c.tenths_of.ensures)) in
+    let fits : SFits w16 (get_or c.args.minutes.now c.args.place (pos 0)) =
+    record { sfits = c.tenths_of-arg-1.given } in
+    let product : SmallCount (term_count c.args.values.now (term_at c.args.load_literals.now c.args.minutes.now c.args.place)) (to_z w32 (of_z w32 c.tenths_of.result) *ℤ to_z w32 (bool_byte c.literal_true-counted.result)) =
+    term_times _ _ _ _ _ c.literal_true-counted.ensures (counted_back (rw (to_z-of_z (fits)) at c.tenths_of.ensures)) in
     magnitude_fits _ (omega (arith, (product).small))
 
 pub returns : goal.returns
 returns c =
-    let fits : let a = c.args in SFits w16 (get_or a.minutes.now a.place (pos 0)) =
-        record { sfits = c.tenths_of-arg-1.given } in
-    let product : let a = c.args in SmallCount (term_count a.values.now (term_at a.load-literals.now a.minutes.now a.place)) (to_z w32 (of_z w32 c.tenths_of.result) *ℤ to_z w32 (bool_byte c.literal_true-counted.result)) =
-        term_times _ _ _ _ _ c.literal_true-counted.ensures (counted_back (rw (to_z-of_z (fits)) at c.tenths_of.ensures)) in
+    let fits : SFits w16 (get_or c.args.minutes.now c.args.place (pos 0)) =
+    record { sfits = c.tenths_of-arg-1.given } in
+    let product : SmallCount (term_count c.args.values.now (term_at c.args.load_literals.now c.args.minutes.now c.args.place)) (to_z w32 (of_z w32 c.tenths_of.result) *ℤ to_z w32 (bool_byte c.literal_true-counted.result)) =
+    term_times _ _ _ _ _ c.literal_true-counted.ensures (counted_back (rw (to_z-of_z (fits)) at c.tenths_of.ensures)) in
     counted_back (product)

@@ -17,14 +17,14 @@ term_count-sum-requires c = term_scannable (omega arith) c.requires
 
 pub overflow_add-sum : goal.overflow_add-sum
 overflow_add-sum c =
-    let turned : let a = c.args in let l = c.loop-i in Summed a.values.now a.load-literals.now a.minutes.now a.size (l.i + 1) (to_z w32 l.sum +ℤ to_z w32 (of_z w32 c.term_count-sum.result)) =
-        sum_turn (omega arith) (counted_back c.term_count-sum.ensures) c.loop-i.invariant in
+    let turned : Summed c.args.values.now c.args.load_literals.now c.args.minutes.now c.args.size (c.loop-i.i + 1) (to_z w32 c.loop-i.sum_bits +ℤ to_z w32 (of_z w32 c.term_count-sum.result)) =
+    sum_turn (omega arith) (counted_back c.term_count-sum.ensures) c.loop-i.invariant in
     magnitude_fits _ (omega (arith, (turned).small, (turned).low, c.requires.few))
 
 pub loop-i-preserved : goal.loop-i-preserved
 loop-i-preserved c =
-    let turned : let a = c.args in let l = c.loop-i in Summed a.values.now a.load-literals.now a.minutes.now a.size (l.i + 1) (to_z w32 l.sum +ℤ to_z w32 (of_z w32 c.term_count-sum.result)) =
-        sum_turn (omega arith) (counted_back c.term_count-sum.ensures) c.loop-i.invariant in
+    let turned : Summed c.args.values.now c.args.load_literals.now c.args.minutes.now c.args.size (c.loop-i.i + 1) (to_z w32 c.loop-i.sum_bits +ℤ to_z w32 (of_z w32 c.term_count-sum.result)) =
+    sum_turn (omega arith) (counted_back c.term_count-sum.ensures) c.loop-i.invariant in
     rw (to_z-of_z (add-sum c)) (turned)
 
 pub returns : goal.returns

@@ -12,8 +12,7 @@ put-next-requires c = omega (arith, c.loop-time.invariant.1, c.loop-time.invaria
 
 pub loop-time-preserved : goal.loop-time-preserved
 loop-time-preserved c = let inv = c.loop-time.invariant in
-    let put = c.put-next in
-    (omega arith, omega (arith, put.ensures, inv.2), put.auto.0 ∙ inv.2)
+    (omega arith, omega (arith, c.put-next.ensures, inv.2), c.put-next.auto.buffer ∙ inv.2)
 
 pub shape_of-buffer : goal.shape_of-buffer
 shape_of-buffer c = c.loop-time.invariant.2

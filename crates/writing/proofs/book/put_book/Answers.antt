@@ -11,8 +11,7 @@ pub put_atoms-sized-requires : goal.put_atoms-sized-requires
 unfolding lent
 put_atoms-sized-requires c =
     let given : Tables =
-        let a = c.args in
-    lent (length a.values.now) a.rules.now a.literals.now a.clauses.now a.loads.now a.load-literals.now a.minutes.now a.marks.now in
+        lent (length c.args.values.now) c.args.rules.now c.args.literals.now c.args.clauses.now c.args.loads.now c.args.load_literals.now c.args.minutes.now c.args.marks.now in
     let long = book_length (given) c.args.values.now c.args.levels.now c.requires.puttable.marked in
     (c.requires.puttable.few, omega (arith, c.requires.levels_in_bounds))
 
@@ -20,8 +19,7 @@ pub put_defined-marked-requires : goal.put_defined-marked-requires
 unfolding lent
 put_defined-marked-requires c =
     let given : Tables =
-        let a = c.args in
-    lent (length a.values.now) a.rules.now a.literals.now a.clauses.now a.loads.now a.load-literals.now a.minutes.now a.marks.now in
+        lent (length c.args.values.now) c.args.rules.now c.args.literals.now c.args.clauses.now c.args.loads.now c.args.load_literals.now c.args.minutes.now c.args.marks.now in
     let long = book_length (given) c.args.values.now c.args.levels.now c.requires.puttable.marked in
     (omega (arith, c.requires.puttable.few, c.requires.puttable.marked), omega (arith, c.requires.levels_in_bounds, c.put_atoms-sized.ensures.answered))
 
@@ -29,8 +27,7 @@ pub put_rows-listed-requires : goal.put_rows-listed-requires
 unfolding lent
 put_rows-listed-requires c =
     let given : Tables =
-        let a = c.args in
-    lent (length a.values.now) a.rules.now a.literals.now a.clauses.now a.loads.now a.load-literals.now a.minutes.now a.marks.now in
+        lent (length c.args.values.now) c.args.rules.now c.args.literals.now c.args.clauses.now c.args.loads.now c.args.load_literals.now c.args.minutes.now c.args.marks.now in
     let long = book_length (given) c.args.values.now c.args.levels.now c.requires.puttable.marked in
     (c.requires.puttable.rules, (c.requires.puttable.clauses, (c.requires.puttable.loads, omega (arith, c.requires.levels_in_bounds, c.put_atoms-sized.ensures.answered, c.put_defined-marked.ensures.answered))))
 
@@ -38,8 +35,7 @@ pub put_claim-requires : goal.put_claim-requires
 unfolding lent
 put_claim-requires c =
     let given : Tables =
-        let a = c.args in
-    lent (length a.values.now) a.rules.now a.literals.now a.clauses.now a.loads.now a.load-literals.now a.minutes.now a.marks.now in
+        lent (length c.args.values.now) c.args.rules.now c.args.literals.now c.args.clauses.now c.args.loads.now c.args.load_literals.now c.args.minutes.now c.args.marks.now in
     let long = book_length (given) c.args.values.now c.args.levels.now c.requires.puttable.marked in
     (omega (arith, c.requires.puttable.levelled), omega (arith, c.requires.levels_in_bounds, c.put_atoms-sized.ensures.answered, c.put_defined-marked.ensures.answered, c.put_rows-listed.ensures.answered))
 
@@ -47,7 +43,6 @@ pub returns : goal.returns
 unfolding lent
 returns c =
     let given : Tables =
-        let a = c.args in
-    lent (length a.values.now) a.rules.now a.literals.now a.clauses.now a.loads.now a.load-literals.now a.minutes.now a.marks.now in
+        lent (length c.args.values.now) c.args.rules.now c.args.literals.now c.args.clauses.now c.args.loads.now c.args.load_literals.now c.args.minutes.now c.args.marks.now in
     puts_parts (book_parts (given) _ _ c.requires.puttable.marked) c.put_atoms-sized.ensures c.put_defined-marked.ensures
     (puts_then c.put_rows-listed.ensures c.put_claim.ensures)

@@ -26,6 +26,5 @@ pub returns : goal.returns
 unfolding lent
 returns c =
     let given : Tables =
-        let a = c.args in
-    lent (length a.values.now) a.rules.now a.literals.now a.clauses.now a.loads.now a.load-literals.now a.minutes.now a.marks.now in
+        lent (length c.args.values.now) c.args.rules.now c.args.literals.now c.args.clauses.now c.args.loads.now c.args.load_literals.now c.args.minutes.now c.args.marks.now in
     omega (arith, book_length (given) c.args.values.now c.args.levels.now c.requires.puttable.marked, parts_length (atoms_parts (length c.args.values.now)), c.width-sized.ensures.0, c.defined_length-marked.ensures.is, c.rows_length-listed.ensures.is, c.claim_length.ensures.is)

@@ -10,7 +10,7 @@ pub loop-atom-init : goal.loop-atom-init
 loop-atom-init c = adding_start _ _ _
 
 pub pair_length-total-requires : goal.pair_length-total-requires
-pair_length-total-requires c = let pre = c.requires in (omega arith, pre.0, pre.2)
+pair_length-total-requires c = (omega arith, c.requires.0, c.requires.2)
 
 pub loop-atom-preserved : goal.loop-atom-preserved
 loop-atom-preserved c = adding_turn _ _ _ _ _ _ (omega arith) c.pair_length-total.ensures c.loop-atom.invariant

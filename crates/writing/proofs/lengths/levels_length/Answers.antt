@@ -11,16 +11,14 @@ loop-group-init c = (omega arith, adding_start _ _ _)
 
 pub offset_bounds-levels-place : goal.offset_bounds-levels-place
 offset_bounds-levels-place c =
-    let inside : let a = c.args in c.loop-group.place + a.atoms < length a.levels.now + a.atoms =
-        let loop = c.loop-group in
-    omega (arith, group_inside c.args.atoms c.args.groups loop.group c.loop-group-test.true, loop.invariant.0, c.requires.0, c.requires.1) in
+    let inside : c.loop-group.place + c.args.atoms < length c.args.levels.now + c.args.atoms =
+        omega (arith, group_inside c.args.atoms c.args.groups c.loop-group.group c.loop-group-test.true, c.loop-group.invariant.0, c.requires.0, c.requires.1) in
     omega (arith, inside)
 
 pub bounds-levels-place : goal.bounds-levels-place
 bounds-levels-place c =
-    let inside : let a = c.args in c.loop-group.place + a.atoms < length a.levels.now + a.atoms =
-        let loop = c.loop-group in
-    omega (arith, group_inside c.args.atoms c.args.groups loop.group c.loop-group-test.true, loop.invariant.0, c.requires.0, c.requires.1) in
+    let inside : c.loop-group.place + c.args.atoms < length c.args.levels.now + c.args.atoms =
+        omega (arith, group_inside c.args.atoms c.args.groups c.loop-group.group c.loop-group-test.true, c.loop-group.invariant.0, c.requires.0, c.requires.1) in
     omega (arith, inside)
 
 pub overflow_add-total : goal.overflow_add-total
@@ -31,9 +29,8 @@ overflow_add-group c = omega (arith, c.requires.2)
 
 pub overflow_add-place : goal.overflow_add-place
 overflow_add-place c =
-    let inside : let a = c.args in c.loop-group.place + a.atoms < length a.levels.now + a.atoms =
-        let loop = c.loop-group in
-    omega (arith, group_inside c.args.atoms c.args.groups loop.group c.loop-group-test.true, loop.invariant.0, c.requires.0, c.requires.1) in
+    let inside : c.loop-group.place + c.args.atoms < length c.args.levels.now + c.args.atoms =
+        omega (arith, group_inside c.args.atoms c.args.groups c.loop-group.group c.loop-group-test.true, c.loop-group.invariant.0, c.requires.0, c.requires.1) in
     omega (arith, inside, group_inside c.args.atoms c.args.groups c.loop-group.group c.loop-group-test.true, c.requires.1)
 
 pub loop-group-preserved : goal.loop-group-preserved

@@ -11,12 +11,11 @@ pub width-requires : goal.width-requires
 width-requires c = omega (arith, c.shared_slice_known-3-1.given c.args.atom)
 
 pub returns : goal.returns
-returns c = let a = c.args in
-    record {
+returns c = record {
       is =
           omega (
             arith,
-            pair_length (length a.values.now) a.groups a.values.now a.levels.now a.atom,
+            pair_length (length c.args.values.now) c.args.groups c.args.values.now c.args.levels.now c.args.atom,
             c.width.ensures.0,
             c.levels_length.ensures.is,
           );

@@ -5,11 +5,7 @@ use Rattle.writing.proofs.TextLaws.{parts_length, rows_parts}
 use Rattle.writing.proofs.lengths.rows_length.Goals as goal
 
 pub returns : goal.returns
-returns c = let a = c.args in
-    let ruled = c.rules_length-ruled.ensures in
-    let claused = c.clauses_length-claused.ensures in
-    let loaded = c.loads_length.ensures in
-    record {
-      is = omega (arith, parts_length (rows_parts a.rules.now a.literals.now a.clauses.now a.loads.now a.load-literals.now a.minutes.now), ruled.is, claused.is, loaded.is);
-      few = omega (arith, ruled.few, claused.few, loaded.few);
+returns c = record {
+      is = omega (arith, parts_length (rows_parts c.args.rules.now c.args.literals.now c.args.clauses.now c.args.loads.now c.args.load_literals.now c.args.minutes.now), c.rules_length-ruled.ensures.is, c.clauses_length-claused.ensures.is, c.loads_length.ensures.is);
+      few = omega (arith, c.rules_length-ruled.ensures.few, c.clauses_length-claused.ensures.few, c.loads_length.ensures.few);
     }

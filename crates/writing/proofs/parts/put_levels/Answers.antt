@@ -13,16 +13,14 @@ loop-group-init c = (omega arith, omega arith, joined_start _ _ _)
 
 pub offset_bounds-levels-place : goal.offset_bounds-levels-place
 offset_bounds-levels-place c =
-    let inside : let a = c.args in c.loop-group.place + a.atoms < length a.levels.now + a.atoms =
-        let loop = c.loop-group in
-    omega (arith, group_inside c.args.atoms c.args.groups loop.group c.loop-group-test.true, loop.invariant.1, c.requires.atom_lt_atoms.0, c.requires.atom_lt_atoms.1) in
+    let inside : c.loop-group.place + c.args.atoms < length c.args.levels.now + c.args.atoms =
+        omega (arith, group_inside c.args.atoms c.args.groups c.loop-group.group c.loop-group-test.true, c.loop-group.invariant.1, c.requires.atom_lt_atoms.0, c.requires.atom_lt_atoms.1) in
     omega (arith, inside)
 
 pub bounds-levels-place : goal.bounds-levels-place
 bounds-levels-place c =
-    let inside : let a = c.args in c.loop-group.place + a.atoms < length a.levels.now + a.atoms =
-        let loop = c.loop-group in
-    omega (arith, group_inside c.args.atoms c.args.groups loop.group c.loop-group-test.true, loop.invariant.1, c.requires.atom_lt_atoms.0, c.requires.atom_lt_atoms.1) in
+    let inside : c.loop-group.place + c.args.atoms < length c.args.levels.now + c.args.atoms =
+        omega (arith, group_inside c.args.atoms c.args.groups c.loop-group.group c.loop-group-test.true, c.loop-group.invariant.1, c.requires.atom_lt_atoms.0, c.requires.atom_lt_atoms.1) in
     omega (arith, inside)
 
 pub put_level-next-requires : goal.put_level-next-requires
@@ -31,9 +29,8 @@ put_level-next-requires c = let here = level_here c.args.atoms c.args.levels.now
 
 pub overflow_add-place : goal.overflow_add-place
 overflow_add-place c =
-    let inside : let a = c.args in c.loop-group.place + a.atoms < length a.levels.now + a.atoms =
-        let loop = c.loop-group in
-    omega (arith, group_inside c.args.atoms c.args.groups loop.group c.loop-group-test.true, loop.invariant.1, c.requires.atom_lt_atoms.0, c.requires.atom_lt_atoms.1) in
+    let inside : c.loop-group.place + c.args.atoms < length c.args.levels.now + c.args.atoms =
+        omega (arith, group_inside c.args.atoms c.args.groups c.loop-group.group c.loop-group-test.true, c.loop-group.invariant.1, c.requires.atom_lt_atoms.0, c.requires.atom_lt_atoms.1) in
     omega (arith, inside, group_inside c.args.atoms c.args.groups c.loop-group.group c.loop-group-test.true, c.requires.atom_lt_atoms.1)
 
 pub loop-group-preserved : goal.loop-group-preserved
