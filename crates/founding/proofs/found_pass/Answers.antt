@@ -1,9 +1,9 @@
 -- `founding::found_pass` meets its contract: the marks are those that the rows passed make of the entry's, and so many are new.
 use Prim.Native.Nat.{◌-◌}
-use mathlib.Core.Logic.{⊎_elim}
 use native.Mathlib.Omega.{arith}
 use Rattle.founding.proofs.FoundingLaws.{unmarked_le, passed_start, passed_turn, passed_end}
 use Rattle.founding.proofs.found_pass.Goals as goal
+use Rattle.founding.proofs.found_pass.Goals.{then-found_row, else-found_row}
 
 pub loop-row-init : goal.loop-row-init
 loop-row-init c = (omega arith, passed_start)
@@ -18,7 +18,10 @@ pub loop-row-preserved : goal.loop-row-preserved
 loop-row-preserved c = (
   omega arith,
   passed_turn _ _ _ c.found_row.result _ _ c.found_row.ensures.0 c.found_row.ensures.1 c.found_row.auto.founded
-      (⊎_elim (λ w. rw w.0.taken (omega (arith, w.1))) (λ w. rw w.0.left (omega (arith, w.1))) c.if-found_row.branch)
+      (elim c.if-found_row.branch [
+        | then-found_row w ↦ rw w.if-found_row.true (omega (arith, w.marked-is))
+        | else-found_row w ↦ rw w.if-found_row.false (omega (arith, w.marked-is))
+      ])
       c.loop-row.invariant.1,
 )
 

@@ -1,6 +1,5 @@
 -- `founding::found_row` meets its contract: it marks nothing if the head is decided or marked, or if the body does not found it.
 use mathlib.Core.Path.{sym, ◌∙◌}
-use mathlib.Core.Logic.{⊎_elim}
 use native.Mathlib.Omega.{arith}
 use borrow.Author.Tests.{eqb-true, eqb-false}
 use Rattle.tables.specs.Rows.{rule_body}
@@ -8,6 +7,7 @@ use Rattle.tables.proofs.MarkLaws.{look_decided, look_again, look_fails, look_ma
 use Rattle.founding.specs.internal.Founding.{row_founds, found_row}
 use Rattle.founding.proofs.FoundingLaws.{unmarked_set}
 use Rattle.founding.proofs.found_row.Goals as goal
+use Rattle.founding.proofs.found_row.Goals.{then-value-lt2-via-then-value-lt2, then-value-lt2-via-else-value-lt2+then-mark-eq1}
 
 pub bounds-values-head : goal.bounds-values-head
 bounds-values-head c = omega (arith, c.requires.1.rows.heads _ c.requires.0)
@@ -19,7 +19,10 @@ pub returns-then-value-lt2 : goal.returns-then-value-lt2
 unfolding found_row row_founds
 returns-then-value-lt2 c = let within = c.requires.1.rows.heads _ c.requires.0 in
     let head = c.rule_head-head.ensures.is in (
-      ⊎_elim (λ w. look_decided _ _ _ _ head _ (omega arith) (omega (arith, w.taken))) (λ w. look_again _ _ _ _ head _ (eqb-true _ _ w.1.taken)) c.then-value-lt2.branch,
+      elim c.then-value-lt2.branch [
+        | then-value-lt2-via-then-value-lt2 w ↦ look_decided _ _ _ _ head _ (omega arith) (omega (arith, w.if-value-lt2))
+        | then-value-lt2-via-else-value-lt2+then-mark-eq1 w ↦ look_again _ _ _ _ head _ w.if-mark-eq1.true
+      ],
       omega arith,
     )
 
