@@ -25,13 +25,13 @@ mark_founded-requires c = let lends = c.requires.1.lends in
 
 pub loop-negated-init : goal.loop-negated-init
 loop-negated-init c = (
-      refl,
-      refl,
-      refl,
-      λ d lends.
-          stages_start c.requires.1 lends c.start_values.ensures c.clear.ensures c.clear-2.ensures c.mark_negated.ensures
-          c.mark_founded.auto.founded c.mark_founded.ensures,
-    )
+  refl,
+  refl,
+  refl,
+  λ d lends.
+      stages_start c.requires.1 lends c.start_values.ensures c.clear.ensures c.clear-2.ensures c.mark_negated.ensures
+      c.mark_founded.auto.founded c.mark_founded.ensures,
+)
 
 pub overflow_add-rounds : goal.overflow_add-rounds
 overflow_add-rounds c = omega (arith, at_small (c.loop-negated.invariant.3 c.requires.0 c.requires.1.lends))
@@ -51,14 +51,14 @@ overflow_add-rounds-in-loop-negated c = omega (arith, at_small (c.loop-negated.i
 pub loop-negated-smaller : goal.loop-negated-smaller
 loop-negated-smaller c =
     let done : let negated = c.mark_negated.new.marks in let last = c.round.new.founded in (d : Definition) → Lends d c.args.rules.now c.args.literals.now c.args.defined.now c.args.setting.now → RoundDone d c.args.rules.now c.args.literals.now c.args.setting.now c.loop-negated.rounds c.args.defined.now negated last.0 last.1.0 last.1.1.0 last.1.1.1.0 c.round.result =
-        λ d lends. c.round.ensures d _ _ (c.loop-negated.invariant.3 d lends) (sym (add-one _)) in
+    λ d lends. c.round.ensures d _ _ (c.loop-negated.invariant.3 d lends) (sym (add-one _)) in
     let next = at_bound (stages_turn (done c.requires.0 c.requires.1.lends) c.loop-negated-test.true) in
     omega arith
 
 pub loop-negated-preserved : goal.loop-negated-preserved
 loop-negated-preserved c =
     let done : let negated = c.mark_negated.new.marks in let last = c.round.new.founded in (d : Definition) → Lends d c.args.rules.now c.args.literals.now c.args.defined.now c.args.setting.now → RoundDone d c.args.rules.now c.args.literals.now c.args.setting.now c.loop-negated.rounds c.args.defined.now negated last.0 last.1.0 last.1.1.0 last.1.1.1.0 c.round.result =
-        λ d lends. c.round.ensures d _ _ (c.loop-negated.invariant.3 d lends) (sym (add-one _)) in
+    λ d lends. c.round.ensures d _ _ (c.loop-negated.invariant.3 d lends) (sym (add-one _)) in
     let inv = c.loop-negated.invariant in
     let kept = c.round.auto.values in
     (kept.0 ∙ inv.0, kept.1.0 ∙ inv.1, kept.1.1.0 ∙ inv.2, λ d lends. stages_turn (done d lends) c.loop-negated-test.true)
@@ -75,5 +75,5 @@ shape_of-work c = c.round.auto.work ∙ c.loop-negated.invariant.2 ∙ c.clear-2
 pub returns : goal.returns
 returns c =
     let done : let negated = c.mark_negated.new.marks in let last = c.round.new.founded in (d : Definition) → Lends d c.args.rules.now c.args.literals.now c.args.defined.now c.args.setting.now → RoundDone d c.args.rules.now c.args.literals.now c.args.setting.now c.loop-negated.rounds c.args.defined.now negated last.0 last.1.0 last.1.1.0 last.1.1.1.0 c.round.result =
-        λ d lends. c.round.ensures d _ _ (c.loop-negated.invariant.3 d lends) (sym (add-one _)) in
+    λ d lends. c.round.ensures d _ _ (c.loop-negated.invariant.3 d lends) (sym (add-one _)) in
     λ d ready. stages_end (done d ready.lends) c.loop-negated-test.false
