@@ -1,12 +1,12 @@
 -- `rounds::rounds::fire_row` meets its contract: it marks nothing if the head is decided or marked, or if the body is not all true.
 use mathlib.Core.Path.{sym, ◌∙◌}
-use mathlib.Core.Logic.{⊎_elim}
 use native.Mathlib.Omega.{arith}
 use borrow.Author.Tests.{eqb-true}
 use Rattle.tables.specs.Rows.{rule_body}
 use Rattle.tables.proofs.MarkLaws.{look_decided, look_again, look_fails, look_marks}
 use Rattle.rounds.specs.internal.Firing.{row_fires}
 use Rattle.rounds.proofs.rounds.fire_row.Goals as goal
+use Rattle.rounds.proofs.rounds.fire_row.Goals.{then-value-lt2-via-then-value-lt2, then-value-lt2-via-else-value-lt2+then-mark-eq1}
 
 pub bounds-values-head : goal.bounds-values-head
 bounds-values-head c = omega (arith, c.requires.1.rows.heads _ c.requires.0)
@@ -18,7 +18,10 @@ pub returns-then-value-lt2 : goal.returns-then-value-lt2
 unfolding row_fires
 returns-then-value-lt2 c = let within = c.requires.1.rows.heads _ c.requires.0 in
     let head = c.rule_head-head.ensures.is in
-    ⊎_elim (λ w. look_decided _ _ _ _ head _ (omega arith) (omega (arith, w.taken))) (λ w. look_again _ _ _ _ head _ (eqb-true _ _ w.1.taken)) c.then-value-lt2.branch
+    elim c.then-value-lt2.branch [
+      | then-value-lt2-via-then-value-lt2 w ↦ look_decided _ _ _ _ head _ (omega arith) (omega (arith, w.if-value-lt2))
+      | then-value-lt2-via-else-value-lt2+then-mark-eq1 w ↦ look_again _ _ _ _ head _ w.if-mark-eq1.true
+    ]
 
 pub body_true-requires : goal.body_true-requires
 body_true-requires c = record { within = omega (arith, c.requires.1.rows.within _ c.requires.0); known = c.requires.1.rows.known }

@@ -21,7 +21,7 @@ mark_negated-requires c = λ place l.
 pub mark_founded-requires : goal.mark_founded-requires
 mark_founded-requires c = let lends = c.requires.1.lends in
     let long = c.start_values.auto.values ∙ c.requires.1.values_long ∙ lends.long in
-    (record { rows = rw long lends.rows; room = rw long lends.few }, sym lends.room)
+    record { markable = record { rows = rw long lends.rows; room = rw long lends.few }; founded_len = sym lends.room }
 
 pub loop-negated-init : goal.loop-negated-init
 loop-negated-init c = (
@@ -50,18 +50,17 @@ overflow_add-rounds-in-loop-negated c = omega (arith, at_small (c.loop-negated.i
 
 pub loop-negated-smaller : goal.loop-negated-smaller
 loop-negated-smaller c =
-    let done : let negated = c.mark_negated.new.marks in let last = c.round.new.founded in (d : Definition) → Lends d c.args.rules.now c.args.literals.now c.args.defined.now c.args.setting.now → RoundDone d c.args.rules.now c.args.literals.now c.args.setting.now c.loop-negated.rounds c.args.defined.now negated last.0 last.1.0 last.1.1.0 last.1.1.1.0 c.round.result =
+    let done : let negated = c.mark_negated.new.marks in (d : Definition) → Lends d c.args.rules.now c.args.literals.now c.args.defined.now c.args.setting.now → RoundDone d c.args.rules.now c.args.literals.now c.args.setting.now c.loop-negated.rounds c.args.defined.now negated c.round.new.founded c.round.new.values c.round.new.levels c.round.new.work c.round.result =
     λ d lends. c.round.ensures d _ _ (c.loop-negated.invariant.3 d lends) (sym (add-one _)) in
     let next = at_bound (stages_turn (done c.requires.0 c.requires.1.lends) c.loop-negated-test.true) in
     omega arith
 
 pub loop-negated-preserved : goal.loop-negated-preserved
 loop-negated-preserved c =
-    let done : let negated = c.mark_negated.new.marks in let last = c.round.new.founded in (d : Definition) → Lends d c.args.rules.now c.args.literals.now c.args.defined.now c.args.setting.now → RoundDone d c.args.rules.now c.args.literals.now c.args.setting.now c.loop-negated.rounds c.args.defined.now negated last.0 last.1.0 last.1.1.0 last.1.1.1.0 c.round.result =
+    let done : let negated = c.mark_negated.new.marks in (d : Definition) → Lends d c.args.rules.now c.args.literals.now c.args.defined.now c.args.setting.now → RoundDone d c.args.rules.now c.args.literals.now c.args.setting.now c.loop-negated.rounds c.args.defined.now negated c.round.new.founded c.round.new.values c.round.new.levels c.round.new.work c.round.result =
     λ d lends. c.round.ensures d _ _ (c.loop-negated.invariant.3 d lends) (sym (add-one _)) in
     let inv = c.loop-negated.invariant in
-    let kept = c.round.auto.values in
-    (kept.0 ∙ inv.0, kept.1.0 ∙ inv.1, kept.1.1.0 ∙ inv.2, λ d lends. stages_turn (done d lends) c.loop-negated-test.true)
+    (c.round.auto.values ∙ inv.0, c.round.auto.levels ∙ inv.1, c.round.auto.work ∙ inv.2, λ d lends. stages_turn (done d lends) c.loop-negated-test.true)
 
 pub shape_of-values : goal.shape_of-values
 shape_of-values c = c.round.auto.values ∙ c.loop-negated.invariant.0 ∙ c.start_values.auto.values
@@ -74,6 +73,6 @@ shape_of-work c = c.round.auto.work ∙ c.loop-negated.invariant.2 ∙ c.clear-2
 
 pub returns : goal.returns
 returns c =
-    let done : let negated = c.mark_negated.new.marks in let last = c.round.new.founded in (d : Definition) → Lends d c.args.rules.now c.args.literals.now c.args.defined.now c.args.setting.now → RoundDone d c.args.rules.now c.args.literals.now c.args.setting.now c.loop-negated.rounds c.args.defined.now negated last.0 last.1.0 last.1.1.0 last.1.1.1.0 c.round.result =
+    let done : let negated = c.mark_negated.new.marks in (d : Definition) → Lends d c.args.rules.now c.args.literals.now c.args.defined.now c.args.setting.now → RoundDone d c.args.rules.now c.args.literals.now c.args.setting.now c.loop-negated.rounds c.args.defined.now negated c.round.new.founded c.round.new.values c.round.new.levels c.round.new.work c.round.result =
     λ d lends. c.round.ensures d _ _ (c.loop-negated.invariant.3 d lends) (sym (add-one _)) in
     λ d ready. stages_end (done d ready.lends) c.loop-negated-test.false

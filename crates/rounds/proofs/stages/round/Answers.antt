@@ -10,7 +10,7 @@ returns-then-decided-eq0 c = λ d setting k at so.
 
 pub mark_founded-requires : goal.mark_founded-requires
 mark_founded-requires c = let long = c.decide-changed.auto.values in
-    (record { rows = rw long c.requires.rows; room = rw long c.requires.founded_room }, sym c.requires.defined_room)
+    record { markable = record { rows = rw long c.requires.rows; room = rw long c.requires.founded_room }; founded_len = sym c.requires.defined_room }
 
 pub returns-then-renewed : goal.returns-then-renewed
 returns-then-renewed c = λ d setting k at so.
