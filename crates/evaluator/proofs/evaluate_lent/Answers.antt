@@ -60,7 +60,7 @@ unfolding lent
 model_fault-verdict-requires c =
     let given : Tables =
         lent (length c.args.setting.now) c.args.rules.now c.args.literals.now c.args.clauses.now c.args.loads.now c.args.load_literals.now c.args.minutes.now c.args.marks.now in
-    let rounds-done : let last = c.evaluate_stages-rounds.new.values in RoundsDone (book_of (given)) c.args.setting.now last.0 last.1.0 last.1.1.0 c.evaluate_stages-rounds.result =
+    let rounds-done : RoundsDone (book_of (given)) c.args.setting.now c.evaluate_stages-rounds.new.values c.evaluate_stages-rounds.new.levels c.evaluate_stages-rounds.new.work c.evaluate_stages-rounds.result =
         c.evaluate_stages-rounds.ensures (book_of (given)) (stages_ready (given) _ _ _ _ refl c.requires _ c.mark_defined.ensures) in
     rw (done_long (rounds-done), book_size) (c.requires.clause_rows, c.requires.load_rows)
 
@@ -75,7 +75,7 @@ returns c =
         marks_left (given) _ _ (mark-is) c.in_default.is in
     let setting-is : c.bad_setting.result ≡ lowest (book_of (given)).size (bad_setting (book_of (given)) c.args.setting.now) =
         c.bad_setting.ensures ∙ setting_same (given) _ _ _ _ refl c.requires _ c.mark_defined.ensures in
-    let rounds-done : let last = c.evaluate_stages-rounds.new.values in RoundsDone (book_of (given)) c.args.setting.now last.0 last.1.0 last.1.1.0 c.evaluate_stages-rounds.result =
+    let rounds-done : RoundsDone (book_of (given)) c.args.setting.now c.evaluate_stages-rounds.new.values c.evaluate_stages-rounds.new.levels c.evaluate_stages-rounds.new.work c.evaluate_stages-rounds.result =
         c.evaluate_stages-rounds.ensures (book_of (given)) (stages_ready (given) _ _ _ _ refl c.requires _ c.mark_defined.ensures) in
     made_answer (given) _ _ _ _ (marks_fit) _ (setting-is) c.in_default-bad_setting.is _ _ _ _ _ refl (rounds-done)
     c.model_fault-verdict.ensures

@@ -18,16 +18,16 @@ start_counts-end-requires c = (_, _, _, _, _, c.requires.2)
 
 pub close-front-requires : goal.close-front-requires
 close-front-requires c =
-    let closes : let last = c.start_counts-end.new.counts in (d : Definition) (setting : List ℕ) → AtStart d c.args.rules.now c.args.literals.now c.args.starts.now c.args.entries.now setting c.args.counts.now c.args.values.now c.args.levels.now c.args.queue.now → Closes d c.args.rules.now c.args.literals.now c.args.starts.now c.args.entries.now setting 0 true 0 c.start_counts-end.result 1 c.found.new.marks last.0 last.1.0 c.args.levels.now last.1.1.0 =
-        λ d setting at. start_closes at.lends (c.found.ensures d setting 0 (start_founds at c.requires.3)) (c.start_counts-end.ensures d _ _ setting _ at) in
+    let closes : (d : Definition) (setting : List ℕ) → AtStart d c.args.rules.now c.args.literals.now c.args.starts.now c.args.entries.now setting c.args.counts.now c.args.values.now c.args.levels.now c.args.queue.now → Closes d c.args.rules.now c.args.literals.now c.args.starts.now c.args.entries.now setting 0 true 0 c.start_counts-end.result 1 c.found.new.marks c.start_counts-end.new.counts c.start_counts-end.new.values c.args.levels.now c.start_counts-end.new.queue =
+    λ d setting at. start_closes at.lends (c.found.ensures d setting 0 (start_founds at c.requires.3)) (c.start_counts-end.ensures d _ _ setting _ at) in
     (_, _, _, _, _, _, _, closes c.requires.0 c.requires.1 c.requires.2)
 
 pub run-rounds-requires : goal.run-rounds-requires
 run-rounds-requires c =
-    let closes : let last = c.start_counts-end.new.counts in (d : Definition) (setting : List ℕ) → AtStart d c.args.rules.now c.args.literals.now c.args.starts.now c.args.entries.now setting c.args.counts.now c.args.values.now c.args.levels.now c.args.queue.now → Closes d c.args.rules.now c.args.literals.now c.args.starts.now c.args.entries.now setting 0 true 0 c.start_counts-end.result 1 c.found.new.marks last.0 last.1.0 c.args.levels.now last.1.1.0 =
-        λ d setting at. start_closes at.lends (c.found.ensures d setting 0 (start_founds at c.requires.3)) (c.start_counts-end.ensures d _ _ setting _ at) in
-    let runs : let last = c.close-front.new.values in (d : Definition) (setting : List ℕ) → AtStart d c.args.rules.now c.args.literals.now c.args.starts.now c.args.entries.now setting c.args.counts.now c.args.values.now c.args.levels.now c.args.queue.now → Runs d c.args.rules.now c.args.literals.now c.args.starts.now c.args.entries.now setting 0 c.close-front.result.from c.close-front.result.end c.close-front.result.due c.start_counts-end.new.counts c.found.new.marks last.0 last.1.0 last.1.1.0 =
-        λ d setting at. let closed = closes d setting at in
+    let closes : (d : Definition) (setting : List ℕ) → AtStart d c.args.rules.now c.args.literals.now c.args.starts.now c.args.entries.now setting c.args.counts.now c.args.values.now c.args.levels.now c.args.queue.now → Closes d c.args.rules.now c.args.literals.now c.args.starts.now c.args.entries.now setting 0 true 0 c.start_counts-end.result 1 c.found.new.marks c.start_counts-end.new.counts c.start_counts-end.new.values c.args.levels.now c.start_counts-end.new.queue =
+    λ d setting at. start_closes at.lends (c.found.ensures d setting 0 (start_founds at c.requires.3)) (c.start_counts-end.ensures d _ _ setting _ at) in
+    let runs : (d : Definition) (setting : List ℕ) → AtStart d c.args.rules.now c.args.literals.now c.args.starts.now c.args.entries.now setting c.args.counts.now c.args.values.now c.args.levels.now c.args.queue.now → Runs d c.args.rules.now c.args.literals.now c.args.starts.now c.args.entries.now setting 0 c.close-front.result.from c.close-front.result.end c.close-front.result.due c.start_counts-end.new.counts c.found.new.marks c.close-front.new.values c.close-front.new.levels c.close-front.new.queue =
+    λ d setting at. let closed = closes d setting at in
     start_runs closed (c.close-front.ensures d _ _ _ setting _ 0 closed) in
     (_, _, runs c.requires.0 c.requires.1 c.requires.2)
 
@@ -45,9 +45,9 @@ shape_of-queue c = c.clear.auto.entries ∙ c.run-rounds.auto.queue ∙ c.close-
 
 pub returns : goal.returns
 returns c =
-    let closes : let last = c.start_counts-end.new.counts in (d : Definition) (setting : List ℕ) → AtStart d c.args.rules.now c.args.literals.now c.args.starts.now c.args.entries.now setting c.args.counts.now c.args.values.now c.args.levels.now c.args.queue.now → Closes d c.args.rules.now c.args.literals.now c.args.starts.now c.args.entries.now setting 0 true 0 c.start_counts-end.result 1 c.found.new.marks last.0 last.1.0 c.args.levels.now last.1.1.0 =
-        λ d setting at. start_closes at.lends (c.found.ensures d setting 0 (start_founds at c.requires.3)) (c.start_counts-end.ensures d _ _ setting _ at) in
-    let runs : let last = c.close-front.new.values in (d : Definition) (setting : List ℕ) → AtStart d c.args.rules.now c.args.literals.now c.args.starts.now c.args.entries.now setting c.args.counts.now c.args.values.now c.args.levels.now c.args.queue.now → Runs d c.args.rules.now c.args.literals.now c.args.starts.now c.args.entries.now setting 0 c.close-front.result.from c.close-front.result.end c.close-front.result.due c.start_counts-end.new.counts c.found.new.marks last.0 last.1.0 last.1.1.0 =
-        λ d setting at. let closed = closes d setting at in
+    let closes : (d : Definition) (setting : List ℕ) → AtStart d c.args.rules.now c.args.literals.now c.args.starts.now c.args.entries.now setting c.args.counts.now c.args.values.now c.args.levels.now c.args.queue.now → Closes d c.args.rules.now c.args.literals.now c.args.starts.now c.args.entries.now setting 0 true 0 c.start_counts-end.result 1 c.found.new.marks c.start_counts-end.new.counts c.start_counts-end.new.values c.args.levels.now c.start_counts-end.new.queue =
+    λ d setting at. start_closes at.lends (c.found.ensures d setting 0 (start_founds at c.requires.3)) (c.start_counts-end.ensures d _ _ setting _ at) in
+    let runs : (d : Definition) (setting : List ℕ) → AtStart d c.args.rules.now c.args.literals.now c.args.starts.now c.args.entries.now setting c.args.counts.now c.args.values.now c.args.levels.now c.args.queue.now → Runs d c.args.rules.now c.args.literals.now c.args.starts.now c.args.entries.now setting 0 c.close-front.result.from c.close-front.result.end c.close-front.result.due c.start_counts-end.new.counts c.found.new.marks c.close-front.new.values c.close-front.new.levels c.close-front.new.queue =
+    λ d setting at. let closed = closes d setting at in
     start_runs closed (c.close-front.ensures d _ _ _ setting _ 0 closed) in
     λ d setting at. run_clears at (c.run-rounds.ensures d setting (runs d setting at)) c.clear.ensures

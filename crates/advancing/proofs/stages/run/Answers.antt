@@ -25,17 +25,17 @@ advance-front-requires c = (_, _, _, run_next (c.loop-from.invariant.5 c.require
 
 pub loop-from-smaller : goal.loop-from-smaller
 loop-from-smaller c =
-    let turned : let last = c.advance-front.new.counts in (d : Definition) (setting : List ℕ) → Runs d c.args.rules.now c.args.literals.now c.args.starts.now c.args.entries.now setting 0 c.args.first c.args.last c.args.renewed c.args.counts.now c.args.founded.now c.args.values.now c.args.levels.now c.args.queue.now → Runs d c.args.rules.now c.args.literals.now c.args.starts.now c.args.entries.now setting (c.loop-from.rounds + 1) c.advance-front.result.from c.advance-front.result.end c.advance-front.result.due last.0 last.1.0 last.1.1.0 last.1.1.1.0 last.1.1.1.1.0 =
-        λ d setting r. let now = c.loop-from.invariant.5 d setting r in
+    let turned : (d : Definition) (setting : List ℕ) → Runs d c.args.rules.now c.args.literals.now c.args.starts.now c.args.entries.now setting 0 c.args.first c.args.last c.args.renewed c.args.counts.now c.args.founded.now c.args.values.now c.args.levels.now c.args.queue.now → Runs d c.args.rules.now c.args.literals.now c.args.starts.now c.args.entries.now setting (c.loop-from.rounds + 1) c.advance-front.result.from c.advance-front.result.end c.advance-front.result.due c.advance-front.new.counts c.advance-front.new.founded c.advance-front.new.values c.advance-front.new.levels c.advance-front.new.queue =
+    λ d setting r. let now = c.loop-from.invariant.5 d setting r in
     run_turn now c.advance-front.auto.founded (c.advance-front.ensures d setting _ (run_next now c.loop-from-test.true)) in
     omega (arith, run_bound (turned c.requires.0 c.requires.1 c.requires.2))
 
 pub loop-from-preserved : goal.loop-from-preserved
 loop-from-preserved c =
-    let turned : let last = c.advance-front.new.counts in (d : Definition) (setting : List ℕ) → Runs d c.args.rules.now c.args.literals.now c.args.starts.now c.args.entries.now setting 0 c.args.first c.args.last c.args.renewed c.args.counts.now c.args.founded.now c.args.values.now c.args.levels.now c.args.queue.now → Runs d c.args.rules.now c.args.literals.now c.args.starts.now c.args.entries.now setting (c.loop-from.rounds + 1) c.advance-front.result.from c.advance-front.result.end c.advance-front.result.due last.0 last.1.0 last.1.1.0 last.1.1.1.0 last.1.1.1.1.0 =
-        λ d setting r. let now = c.loop-from.invariant.5 d setting r in
+    let turned : (d : Definition) (setting : List ℕ) → Runs d c.args.rules.now c.args.literals.now c.args.starts.now c.args.entries.now setting 0 c.args.first c.args.last c.args.renewed c.args.counts.now c.args.founded.now c.args.values.now c.args.levels.now c.args.queue.now → Runs d c.args.rules.now c.args.literals.now c.args.starts.now c.args.entries.now setting (c.loop-from.rounds + 1) c.advance-front.result.from c.advance-front.result.end c.advance-front.result.due c.advance-front.new.counts c.advance-front.new.founded c.advance-front.new.values c.advance-front.new.levels c.advance-front.new.queue =
+    λ d setting r. let now = c.loop-from.invariant.5 d setting r in
     run_turn now c.advance-front.auto.founded (c.advance-front.ensures d setting _ (run_next now c.loop-from-test.true)) in
-    let inv = c.loop-from.invariant in let kept = c.advance-front.auto.counts in (kept.0 ∙ inv.0, kept.1.0 ∙ inv.1, kept.1.1.0 ∙ inv.2, kept.1.1.1.0 ∙ inv.3, kept.1.1.1.1.0 ∙ inv.4, λ d setting r. turned d setting r)
+    let inv = c.loop-from.invariant in (c.advance-front.auto.counts ∙ inv.0, c.advance-front.auto.founded ∙ inv.1, c.advance-front.auto.values ∙ inv.2, c.advance-front.auto.levels ∙ inv.3, c.advance-front.auto.queue ∙ inv.4, λ d setting r. turned d setting r)
 
 pub shape_of-counts : goal.shape_of-counts
 shape_of-counts c = c.loop-from.invariant.0
