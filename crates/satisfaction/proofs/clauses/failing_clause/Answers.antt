@@ -1,5 +1,4 @@
 -- `satisfaction::clauses::failing_clause` meets its contract: no row before `row` fails.
-use Prim.Native.Nat.{◌-◌}
 use mathlib.Core.Path.{sym, ◌∙◌}
 use native.Mathlib.Omega.{arith}
 use Rattle.tables.proofs.Faults.{search_start, search_turn, search_stop, search_end}

@@ -1,8 +1,6 @@
 -- `satisfaction::clauses::some_literal_true` meets its contract: some literal from `i` on is true exactly where one of the clause is.
-use Prim.Native.Nat.{◌-◌}
 use mathlib.Core.Path.{sym, ◌∙◌}
 use native.Mathlib.Omega.{arith}
-use Rattle.wellfounded.specs.Literals.{literal_true}
 use Rattle.wellfounded.proofs.Scan.{seek_start, seek_turn, seek_stop, seek_end}
 use Rattle.satisfaction.specs.Satisfied.{clause_holds}
 use Rattle.satisfaction.proofs.clauses.some_literal_true.Goals as goal

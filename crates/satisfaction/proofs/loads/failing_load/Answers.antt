@@ -1,5 +1,4 @@
 -- `satisfaction::loads::failing_load` meets its contract: no row before `row` fails.
-use Prim.Native.Nat.{◌-◌}
 use mathlib.Core.Path.{sym, ap, ◌∙◌}
 use mathlib.Core.Bool.{not}
 use native.Mathlib.Omega.{arith}
