@@ -24,7 +24,7 @@ pub returns-then-not-byte_at-2 : goal.returns-then-not-byte_at-2
 returns-then-not-byte_at-2 c =
     let spaced : word_at c.args.text.now c.args.at (32 ∷ []) ≡ true =
         sym c.byte_at.ensures ∙ c.if-not-byte_at.false in
-    let sized : let v = c.size-1.given.0 in number_at c.args.text.now (c.args.at + 1) ≡ Read v.0 v.1.0 =
+    let sized : number_at c.args.text.now (c.args.at + 1) ≡ Read c.in-Read.size c.in-Read.next =
         sym c.read_number.ensures ∙ c.in-Read.is in
     atoms_unclosed _ _ (spaced) (sized) (sym c.byte_at-2.ensures ∙ c.if-not-byte_at-2.true)
 
@@ -38,7 +38,7 @@ pub returns : goal.returns
 returns c =
     let spaced : word_at c.args.text.now c.args.at (32 ∷ []) ≡ true =
         sym c.byte_at.ensures ∙ c.if-not-byte_at.false in
-    let sized : let v = c.size-1.given.0 in number_at c.args.text.now (c.args.at + 1) ≡ Read v.0 v.1.0 =
+    let sized : number_at c.args.text.now (c.args.at + 1) ≡ Read c.in-Read.size c.in-Read.next =
         sym c.read_number.ensures ∙ c.in-Read.is in
     let closed : word_at c.args.text.now c.in-Read.next (41 ∷ []) ≡ true =
         sym c.byte_at-2.ensures ∙ c.if-not-byte_at-2.false in

@@ -36,7 +36,7 @@ pub returns-then-not-byte_at-2 : goal.returns-then-not-byte_at-2
 returns-then-not-byte_at-2 c =
     let spaced : word_at c.args.text.now c.args.at (32 ∷ []) ≡ true =
         sym c.byte_at.ensures ∙ c.if-not-byte_at.false in
-    let lower : let v = c.low-1.given.0 in signed_at c.args.text.now (c.args.at + 1) ≡ Whole v.0 v.1.0 =
+    let lower : signed_at c.args.text.now (c.args.at + 1) ≡ Whole c.in-Whole.low c.in-Whole.after =
         sym c.read_signed.ensures ∙ c.in-Whole.is in
     load_one_bound _ _ (spaced) (lower) (sym c.byte_at-2.ensures ∙ c.if-not-byte_at-2.true)
 
@@ -50,7 +50,7 @@ pub returns-in_default-read_signed : goal.returns-in_default-read_signed
 returns-in_default-read_signed c =
     let spaced : word_at c.args.text.now c.args.at (32 ∷ []) ≡ true =
         sym c.byte_at.ensures ∙ c.if-not-byte_at.false in
-    let lower : let v = c.low-1.given.0 in signed_at c.args.text.now (c.args.at + 1) ≡ Whole v.0 v.1.0 =
+    let lower : signed_at c.args.text.now (c.args.at + 1) ≡ Whole c.in-Whole.low c.in-Whole.after =
         sym c.read_signed.ensures ∙ c.in-Whole.is in
     let again : word_at c.args.text.now c.in-Whole.after (32 ∷ []) ≡ true =
         sym c.byte_at-2.ensures ∙ c.if-not-byte_at-2.false in
@@ -61,7 +61,7 @@ pub read_terms-requires : goal.read_terms-requires
 read_terms-requires c =
     let again : word_at c.args.text.now c.in-Whole.after (32 ∷ []) ≡ true =
         sym c.byte_at-2.ensures ∙ c.if-not-byte_at-2.false in
-    let upper : let v = c.high-1.given.0 in signed_at c.args.text.now (c.in-Whole.after + 1) ≡ Whole v.0 v.1.0 =
+    let upper : signed_at c.args.text.now (c.in-Whole.after + 1) ≡ Whole c.in-Whole-read_signed.high c.in-Whole-read_signed.next =
         sym c.read_signed-2.ensures ∙ c.in-Whole-read_signed.is in
     let n = signed_after _ _ (again) (upper) in
     (record { reached = n.2.inside; short = c.requires.inside.short }, (counts_within_lem _ c.requires.reached_value).terms)
@@ -70,11 +70,11 @@ pub returns-in_default-read_terms : goal.returns-in_default-read_terms
 returns-in_default-read_terms c =
     let spaced : word_at c.args.text.now c.args.at (32 ∷ []) ≡ true =
         sym c.byte_at.ensures ∙ c.if-not-byte_at.false in
-    let lower : let v = c.low-1.given.0 in signed_at c.args.text.now (c.args.at + 1) ≡ Whole v.0 v.1.0 =
+    let lower : signed_at c.args.text.now (c.args.at + 1) ≡ Whole c.in-Whole.low c.in-Whole.after =
         sym c.read_signed.ensures ∙ c.in-Whole.is in
     let again : word_at c.args.text.now c.in-Whole.after (32 ∷ []) ≡ true =
         sym c.byte_at-2.ensures ∙ c.if-not-byte_at-2.false in
-    let upper : let v = c.high-1.given.0 in signed_at c.args.text.now (c.in-Whole.after + 1) ≡ Whole v.0 v.1.0 =
+    let upper : signed_at c.args.text.now (c.in-Whole.after + 1) ≡ Whole c.in-Whole-read_signed.high c.in-Whole-read_signed.next =
         sym c.read_signed-2.ensures ∙ c.in-Whole-read_signed.is in
     load_listless _ _ (spaced) (lower) (again) (upper) c.read_terms.ensures c.in_default-read_terms.is
 
@@ -88,11 +88,11 @@ unfolding kind_number load_row of_kind same_kind terms_in view_of
 returns c =
     let spaced : word_at c.args.text.now c.args.at (32 ∷ []) ≡ true =
         sym c.byte_at.ensures ∙ c.if-not-byte_at.false in
-    let lower : let v = c.low-1.given.0 in signed_at c.args.text.now (c.args.at + 1) ≡ Whole v.0 v.1.0 =
+    let lower : signed_at c.args.text.now (c.args.at + 1) ≡ Whole c.in-Whole.low c.in-Whole.after =
         sym c.read_signed.ensures ∙ c.in-Whole.is in
     let again : word_at c.args.text.now c.in-Whole.after (32 ∷ []) ≡ true =
         sym c.byte_at-2.ensures ∙ c.if-not-byte_at-2.false in
-    let upper : let v = c.high-1.given.0 in signed_at c.args.text.now (c.in-Whole.after + 1) ≡ Whole v.0 v.1.0 =
+    let upper : signed_at c.args.text.now (c.in-Whole.after + 1) ≡ Whole c.in-Whole-read_signed.high c.in-Whole-read_signed.next =
         sym c.read_signed-2.ensures ∙ c.in-Whole-read_signed.is in
     let once = spaced in
     let kept = signed_kept _ _ once (lower) in

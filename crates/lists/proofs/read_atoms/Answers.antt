@@ -50,9 +50,9 @@ pub overflow_add-floor : goal.overflow_add-floor
 overflow_add-floor c =
     let spaced : word_at c.args.text.now c.loop-next.next (32 ∷ []) ≡ true =
         sym c.byte_at.ensures ∙ c.loop-next-test.true in
-    let numbered : let v = c.atom-1.given.0 in number_at c.args.text.now (c.loop-next.next + 1) ≡ Read v.0 v.1.0 =
+    let numbered : number_at c.args.text.now (c.loop-next.next + 1) ≡ Read c.in-Read.atom c.in-Read.after =
         sym c.read_number.ensures ∙ c.in-Read.is in
-    let room : let v = c.atom-1.given.0 in (v.0 ≤ beyond_limits) × (c.loop-next.next < v.1.0) × (v.1.0 ≤ length c.args.text.now) =
+    let room : (c.in-Read.atom ≤ beyond_limits) × (c.loop-next.next < c.in-Read.after) × (c.in-Read.after ≤ length c.args.text.now) =
         atom_room _ (spaced) (numbered) in
     omega (arith, (room).0)
 
@@ -64,9 +64,9 @@ pub loop-next-smaller : goal.loop-next-smaller
 loop-next-smaller c =
     let spaced : word_at c.args.text.now c.loop-next.next (32 ∷ []) ≡ true =
         sym c.byte_at.ensures ∙ c.loop-next-test.true in
-    let numbered : let v = c.atom-1.given.0 in number_at c.args.text.now (c.loop-next.next + 1) ≡ Read v.0 v.1.0 =
+    let numbered : number_at c.args.text.now (c.loop-next.next + 1) ≡ Read c.in-Read.atom c.in-Read.after =
         sym c.read_number.ensures ∙ c.in-Read.is in
-    let room : let v = c.atom-1.given.0 in (v.0 ≤ beyond_limits) × (c.loop-next.next < v.1.0) × (v.1.0 ≤ length c.args.text.now) =
+    let room : (c.in-Read.atom ≤ beyond_limits) × (c.loop-next.next < c.in-Read.after) × (c.in-Read.after ≤ length c.args.text.now) =
         atom_room _ (spaced) (numbered) in
     let r = room in
     omega (arith, r.1, r.2)
@@ -75,7 +75,7 @@ pub loop-next-preserved : goal.loop-next-preserved
 loop-next-preserved c =
     let spaced : word_at c.args.text.now c.loop-next.next (32 ∷ []) ≡ true =
         sym c.byte_at.ensures ∙ c.loop-next-test.true in
-    let numbered : let v = c.atom-1.given.0 in number_at c.args.text.now (c.loop-next.next + 1) ≡ Read v.0 v.1.0 =
+    let numbered : number_at c.args.text.now (c.loop-next.next + 1) ≡ Read c.in-Read.atom c.in-Read.after =
         sym c.read_number.ensures ∙ c.in-Read.is in
     marking_turn c.loop-next.invariant c.requires.bound_le_max_atoms (spaced) (numbered) c.store_value.ensures
 

@@ -49,7 +49,7 @@ pub loop-next-smaller : goal.loop-next-smaller
 loop-next-smaller c =
     let spaced : word_at c.args.text.now c.loop-next.next (32 ∷ []) ≡ true =
         sym c.byte_at.ensures ∙ c.loop-next-test.true in
-    let read : let v = c.value-1.given.0 in pair_at c.args.text.now (c.loop-next.next + 1) c.args.group ≡ Paired v.0 v.1.0 v.1.1.0 v.1.1.1.0 v.1.1.1.1.0 =
+    let read : pair_at c.args.text.now (c.loop-next.next + 1) c.args.group ≡ Paired c.in-Paired.value c.in-Paired.level c.in-Paired.told c.in-Paired.low c.in-Paired.after =
         sym c.read_pair.ensures ∙ c.in-Paired.is in
     pairs_on _ _ _ (spaced) (read)
 
@@ -57,7 +57,7 @@ pub loop-next-preserved : goal.loop-next-preserved
 loop-next-preserved c =
     let spaced : word_at c.args.text.now c.loop-next.next (32 ∷ []) ≡ true =
         sym c.byte_at.ensures ∙ c.loop-next-test.true in
-    let read : let v = c.value-1.given.0 in pair_at c.args.text.now (c.loop-next.next + 1) c.args.group ≡ Paired v.0 v.1.0 v.1.1.0 v.1.1.1.0 v.1.1.1.1.0 =
+    let read : pair_at c.args.text.now (c.loop-next.next + 1) c.args.group ≡ Paired c.in-Paired.value c.in-Paired.level c.in-Paired.told c.in-Paired.low c.in-Paired.after =
         sym c.read_pair.ensures ∙ c.in-Paired.is in
     column_turn c.loop-next.invariant (spaced) (read) c.store.ensures c.store.auto.table
 

@@ -65,7 +65,7 @@ pub loop-next-smaller : goal.loop-next-smaller
 loop-next-smaller c =
     let spaced : word_at c.args.text.now c.loop-next.next (32 ∷ []) ≡ true =
         sym c.byte_at.ensures ∙ c.loop-next-test.true in
-    let read : let v = c.worked-1.given.0 in term_read_at c.args.text.now (c.loop-next.next + 1) ≡ Weighed v.0 v.1.0 v.1.1.0 =
+    let read : term_read_at c.args.text.now (c.loop-next.next + 1) ≡ Weighed c.in-Weighed.worked c.in-Weighed.literal c.in-Weighed.after =
         sym c.read_term.ensures ∙ c.in-Weighed.is in
     terms_on c.loop-next.invariant (spaced) (read)
 
@@ -73,7 +73,7 @@ pub loop-next-preserved : goal.loop-next-preserved
 loop-next-preserved c =
     let spaced : word_at c.args.text.now c.loop-next.next (32 ∷ []) ≡ true =
         sym c.byte_at.ensures ∙ c.loop-next-test.true in
-    let read : let v = c.worked-1.given.0 in term_read_at c.args.text.now (c.loop-next.next + 1) ≡ Weighed v.0 v.1.0 v.1.1.0 =
+    let read : term_read_at c.args.text.now (c.loop-next.next + 1) ≡ Weighed c.in-Weighed.worked c.in-Weighed.literal c.in-Weighed.after =
         sym c.read_term.ensures ∙ c.in-Weighed.is in
     terms_turn c.loop-next.invariant (spaced) (read) c.store.ensures c.store.auto.table
     c.store_minutes.ensures c.store_minutes.auto.table c.minutes_within.ensures

@@ -14,7 +14,7 @@ returns-then-byte_at c = c.read_negated.ensures ∙ sym (literal_opened _ _ (sym
 pub returns-in_default : goal.returns-in_default
 returns-in_default c =
     let plain : word_at c.args.text.now c.args.at (40 ∷ []) ≡ false =
-        sym c.byte_at.ensures ∙ c.if-byte_at.false in
+    sym c.byte_at.ensures ∙ c.if-byte_at.false in
     sym (literal_atomless _ _ (plain) (sym c.read_number.ensures ∙ c.in_default.is))
 
 pub overflow_mul-result : goal.overflow_mul-result
@@ -24,5 +24,5 @@ overflow_mul-result c = let l = number_limit _ _ _ _ (sym c.read_number.ensures 
 pub returns : goal.returns
 returns c =
     let plain : word_at c.args.text.now c.args.at (40 ∷ []) ≡ false =
-        sym c.byte_at.ensures ∙ c.if-byte_at.false in
+    sym c.byte_at.ensures ∙ c.if-byte_at.false in
     sym (literal_atom _ _ (plain) (sym c.read_number.ensures ∙ c.in-Read.is))

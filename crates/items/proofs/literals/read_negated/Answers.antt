@@ -17,19 +17,19 @@ returns-then-not-word_at c = sym (negated_unopened _ _ (sym c.word_at.ensures �
 pub overflow_add-at : goal.overflow_add-at
 overflow_add-at c =
     let opened : word_at c.args.text.now c.args.at not_word ≡ true =
-        sym c.word_at.ensures ∙ c.if-not-word_at.false in
+    sym c.word_at.ensures ∙ c.if-not-word_at.false in
     let l = (word_got _ _ _ (opened)).1 in search rules
 
 pub returns-in_default : goal.returns-in_default
 returns-in_default c =
     let opened : word_at c.args.text.now c.args.at not_word ≡ true =
-        sym c.word_at.ensures ∙ c.if-not-word_at.false in
+    sym c.word_at.ensures ∙ c.if-not-word_at.false in
     sym (negated_atomless _ _ (opened) (sym c.read_number.ensures ∙ c.in_default.is))
 
 pub returns-then-not-byte_at : goal.returns-then-not-byte_at
 returns-then-not-byte_at c =
     let opened : word_at c.args.text.now c.args.at not_word ≡ true =
-        sym c.word_at.ensures ∙ c.if-not-word_at.false in
+    sym c.word_at.ensures ∙ c.if-not-word_at.false in
     sym (negated_unclosed _ _ (opened)
     (sym c.read_number.ensures ∙ c.in-Read.is)
     (sym c.byte_at.ensures ∙ c.if-not-byte_at.true))
@@ -37,13 +37,13 @@ returns-then-not-byte_at c =
 pub overflow_mul-result : goal.overflow_mul-result
 overflow_mul-result c =
     let small : c.in-Read.atom ≤ beyond_limits =
-        number_limit _ _ _ _ (sym c.read_number.ensures ∙ c.in-Read.is) in
+    number_limit _ _ _ _ (sym c.read_number.ensures ∙ c.in-Read.is) in
     let l = small in search rules
 
 pub overflow_add-result : goal.overflow_add-result
 overflow_add-result c =
     let small : c.in-Read.atom ≤ beyond_limits =
-        number_limit _ _ _ _ (sym c.read_number.ensures ∙ c.in-Read.is) in
+    number_limit _ _ _ _ (sym c.read_number.ensures ∙ c.in-Read.is) in
     let l = small in search rules
 
 pub overflow_add-result-2 : goal.overflow_add-result-2
@@ -52,7 +52,7 @@ overflow_add-result-2 c = let l = (byte_got _ _ _ (sym c.byte_at.ensures ∙ c.i
 pub returns : goal.returns
 returns c =
     let opened : word_at c.args.text.now c.args.at not_word ≡ true =
-        sym c.word_at.ensures ∙ c.if-not-word_at.false in
+    sym c.word_at.ensures ∙ c.if-not-word_at.false in
     sym (negated_closed _ _ (opened)
     (sym c.read_number.ensures ∙ c.in-Read.is)
     (sym c.byte_at.ensures ∙ c.if-not-byte_at.false))

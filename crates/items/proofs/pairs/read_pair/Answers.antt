@@ -17,35 +17,35 @@ returns-then-not-byte_at c = pair_unopened _ _ _ (sym c.byte_at.ensures ∙ c.if
 pub overflow_add-at : goal.overflow_add-at
 overflow_add-at c =
     let opened : word_at c.args.text.now c.args.at (40 ∷ []) ≡ true =
-        sym c.byte_at.ensures ∙ c.if-not-byte_at.false in
+    sym c.byte_at.ensures ∙ c.if-not-byte_at.false in
     let l = (byte_got _ _ _ (opened)).1 in search rules
 
 pub returns-in_default : goal.returns-in_default
 returns-in_default c =
     let opened : word_at c.args.text.now c.args.at (40 ∷ []) ≡ true =
-        sym c.byte_at.ensures ∙ c.if-not-byte_at.false in
+    sym c.byte_at.ensures ∙ c.if-not-byte_at.false in
     pair_valueless _ _ _ (opened) (sym c.read_number.ensures ∙ c.in_default.is)
 
 pub read_levels-requires : goal.read_levels-requires
 read_levels-requires c =
     let opened : word_at c.args.text.now c.args.at (40 ∷ []) ≡ true =
-        sym c.byte_at.ensures ∙ c.if-not-byte_at.false in
-    let valued : let v = c.value-1.given.0 in number_at c.args.text.now (c.args.at + 1) ≡ Read v.0 v.1.0 =
-        sym c.read_number.ensures ∙ c.in-Read.is in
+    sym c.byte_at.ensures ∙ c.if-not-byte_at.false in
+    let valued : number_at c.args.text.now (c.args.at + 1) ≡ Read c.in-Read.value c.in-Read.after =
+    sym c.read_number.ensures ∙ c.in-Read.is in
     (valued_got _ _ c.args.wanted (opened) (valued)).2.inside
 
 pub returns-in_default-read_levels : goal.returns-in_default-read_levels
 returns-in_default-read_levels c =
     let opened : word_at c.args.text.now c.args.at (40 ∷ []) ≡ true =
-        sym c.byte_at.ensures ∙ c.if-not-byte_at.false in
-    let valued : let v = c.value-1.given.0 in number_at c.args.text.now (c.args.at + 1) ≡ Read v.0 v.1.0 =
-        sym c.read_number.ensures ∙ c.in-Read.is in
+    sym c.byte_at.ensures ∙ c.if-not-byte_at.false in
+    let valued : number_at c.args.text.now (c.args.at + 1) ≡ Read c.in-Read.value c.in-Read.after =
+    sym c.read_number.ensures ∙ c.in-Read.is in
     pair_levelless _ _ _ (opened) (valued) (sym c.read_levels.ensures ∙ c.in_default-read_levels.is)
 
 pub returns : goal.returns
 returns c =
     let opened : word_at c.args.text.now c.args.at (40 ∷ []) ≡ true =
-        sym c.byte_at.ensures ∙ c.if-not-byte_at.false in
-    let valued : let v = c.value-1.given.0 in number_at c.args.text.now (c.args.at + 1) ≡ Read v.0 v.1.0 =
-        sym c.read_number.ensures ∙ c.in-Read.is in
+    sym c.byte_at.ensures ∙ c.if-not-byte_at.false in
+    let valued : number_at c.args.text.now (c.args.at + 1) ≡ Read c.in-Read.value c.in-Read.after =
+    sym c.read_number.ensures ∙ c.in-Read.is in
     pair_levelled _ _ _ (opened) (valued) (sym c.read_levels.ensures ∙ c.in-Levelled.is)

@@ -23,39 +23,39 @@ returns-in-Load c = rw c.in-Load.is c.count_load.ensures
 pub returns-in-Atoms : goal.returns-in-Atoms
 unfolding added advanced kind_number phase_after same_kind
 returns-in-Atoms c = rw c.in-Atoms.is (record {
-      state = simp add-zero;
-      limits = other_limits _ _ c.args.size c.args.parts c.requires.0 Atoms refl refl refl;
-      fitting = other_space _ _ c.args.size c.args.parts c.requires.0 Atoms refl refl refl refl refl;
-    })
+  state = simp add-zero;
+  limits = other_limits _ _ c.args.size c.args.parts c.requires.0 Atoms refl refl refl;
+  fitting = other_space _ _ c.args.size c.args.parts c.requires.0 Atoms refl refl refl refl refl;
+})
 
 pub returns-in-Open : goal.returns-in-Open
 unfolding added advanced kind_number phase_after same_kind
 returns-in-Open c = rw c.in-Open.is (record {
-      state = simp add-zero;
-      limits = other_limits _ _ c.args.size c.args.parts c.requires.0 Open refl refl refl;
-      fitting = open_space _ _ c.args.size c.args.parts c.requires.0;
-    })
+  state = simp add-zero;
+  limits = other_limits _ _ c.args.size c.args.parts c.requires.0 Open refl refl refl;
+  fitting = open_space _ _ c.args.size c.args.parts c.requires.0;
+})
 
 pub returns-in-Claim : goal.returns-in-Claim
 unfolding added advanced kind_number phase_after same_kind
 returns-in-Claim c = rw c.in-Claim.is (record {
-      state = simp add-zero;
-      limits = other_limits _ _ c.args.size c.args.parts c.requires.0 Claim refl refl refl;
-      fitting = claim_space _ _ c.args.size c.args.parts c.requires.0 c.levels_told.ensures;
-    })
+  state = simp add-zero;
+  limits = other_limits _ _ c.args.size c.args.parts c.requires.0 Claim refl refl refl;
+  fitting = claim_space _ _ c.args.size c.args.parts c.requires.0 c.levels_told.ensures;
+})
 
 pub returns-in-Defined : goal.returns-in-Defined
 unfolding added advanced kind_number phase_after same_kind
 returns-in-Defined c = rw c.in-Defined.is (record {
-      state = simp add-zero;
-      limits = other_limits _ _ c.args.size c.args.parts c.requires.0 Defined refl refl refl;
-      fitting = other_space _ _ c.args.size c.args.parts c.requires.0 Defined refl refl refl refl refl;
-    })
+  state = simp add-zero;
+  limits = other_limits _ _ c.args.size c.args.parts c.requires.0 Defined refl refl refl;
+  fitting = other_space _ _ c.args.size c.args.parts c.requires.0 Defined refl refl refl refl refl;
+})
 
 pub returns-in-Unknown : goal.returns-in-Unknown
 unfolding added advanced kind_number phase_after same_kind
 returns-in-Unknown c = rw c.in-Unknown.is (record {
-      state = simp add-zero;
-      limits = other_limits _ _ c.args.size c.args.parts c.requires.0 Unknown refl refl refl;
-      fitting = other_space _ _ c.args.size c.args.parts c.requires.0 Unknown refl refl refl refl refl;
-    })
+  state = simp add-zero;
+  limits = other_limits _ _ c.args.size c.args.parts c.requires.0 Unknown refl refl refl;
+  fitting = other_space _ _ c.args.size c.args.parts c.requires.0 Unknown refl refl refl refl refl;
+})

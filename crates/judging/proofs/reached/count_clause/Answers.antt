@@ -17,7 +17,7 @@ overflow_add-then-2 c = let few = counts_within_lem _ c.requires.0.limits in sea
 pub returns : goal.returns
 unfolding added advanced kind_number phase_after same_kind
 returns c = record {
-      state = simp add-zero;
-      limits = clause_limits _ _ 0 c.args.parts c.requires.0;
-      fitting = clause_space _ _ 0 c.args.parts c.requires.0;
-    }
+  state = simp add-zero;
+  limits = clause_limits _ _ 0 c.args.parts c.requires.0;
+  fitting = clause_space _ _ 0 c.args.parts c.requires.0;
+}

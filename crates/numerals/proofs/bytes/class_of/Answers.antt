@@ -26,10 +26,13 @@ pub returns-in-97-to-122 : goal.returns-in-97-to-122
 returns-in-97-to-122 c = sym (class_letter _ (omega arith) (omega arith))
 
 pub returns-in_default : goal.returns-in_default
-returns-in_default c = sym (class_other _ (λ d. omega arith) (λ l. omega arith) c.in_default-1.rest)
+returns-in_default c = sym (class_other _ (λ d. omega arith) (λ l. omega arith)
+    (((((tt, λ e. omega arith), λ e. omega arith), λ e. omega arith), λ e. omega arith), λ e. omega arith))
 
 pub returns-in_default-2 : goal.returns-in_default-2
-returns-in_default-2 c = sym (class_other _ (λ d. omega arith) (λ l. omega arith) c.in_default-1.rest)
+returns-in_default-2 c = sym (class_other _ (λ d. omega arith) (λ l. omega arith)
+    (((((tt, λ e. omega arith), λ e. omega arith), λ e. omega arith), λ e. omega arith), λ e. omega arith))
 
 pub returns-in_default-3 : goal.returns-in_default-3
-returns-in_default-3 c = sym (class_other _ (λ d. omega arith) (λ l. omega arith) c.in_default-1.rest)
+returns-in_default-3 c = sym (class_other _ (λ d. omega arith) (λ l. omega arith)
+    (((((tt, λ e. omega arith), λ e. omega arith), λ e. omega arith), λ e. omega arith), λ e. omega arith))

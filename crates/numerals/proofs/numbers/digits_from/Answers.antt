@@ -1,5 +1,4 @@
 -- `numerals::numbers::digits_from` meets its contract: the digits from `next` on make of the total what all make of the start.
-use Prim.Native.Nat.{◌-◌}
 use mathlib.Core.Path.{sym, ◌∙◌}
 use native.Mathlib.Omega.{arith}
 use Rattle.numerals.proofs.OffsetLaws.{digits_start, digits_turn, digits_stop, digits_end}

@@ -1,8 +1,6 @@
 -- `numerals::numbers::number_from` meets its contract: each way in which a number begins, or none does.
 use mathlib.Core.Path.{◌≡◌, sym, ◌∙◌}
-use mathlib.Core.List.{[], ◌∷◌}
 use native.Mathlib.Omega.{arith}
-use types.Run.{miss}
 use Rattle.wellfounded.proofs.Tests.{not_both}
 use Rattle.format.proofs.Decimals.{digit_is}
 use Rattle.numerals.specs.declared.bytes.Class.TheVariants.{Digit}
@@ -17,7 +15,7 @@ returns-then-text-at c = sym (number_beyond _ _ (omega arith))
 pub returns-in_default : goal.returns-in_default
 returns-in_default c = sym (number_none _ _ (omega arith) (not_both _ (λ t.
     let e : c.class_of.result ≡ Digit = c.class_of.ensures ∙ (digit_class_lem _).1 t in
-    miss (1 ∷ 2 ∷ 3 ∷ 4 ∷ 5 ∷ 6 ∷ 7 ∷ []) 0 tt (rw e at c.in_default.keys2))))
+    c.in_default.not-Digit e)))
 
 pub returns-then-digit_at : goal.returns-then-digit_at
 returns-then-digit_at c = let digit = (digit_class_lem _).0 (sym c.class_of.ensures ∙ c.in-Digit.is) in

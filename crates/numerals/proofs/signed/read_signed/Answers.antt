@@ -1,17 +1,24 @@
 -- `numerals::signed::read_signed` meets its contract: the number there, or below zero the number after the minus.
-use Prim.Native.Nat.{◌≤◌}
+use Prim.Native.Nat.{ℕ, ◌≤◌}
 use mathlib.Core.Path.{◌≡◌, sym, ◌∙◌}
 use mathlib.Core.Bool.{true}
 use native.Mathlib.Omega.{arith}
-use lib.IntN.{pos}
+use lib.IntN.{pos, ◌-ℤ◌}
 use mir.Syntax.{w32}
-use mir.Val.{to_z}
+use mir.Val.{SFits, to_z}
 use mir.Facts.{to_z-of_z, to_z_pos}
 use borrow.Author.Rules.{rules}
 use Rattle.numerals.specs.internal.Offsets.{beyond_limits, minus_at}
 use Rattle.numerals.proofs.SignedLaws.{minus_inside, signed_plain, signed_negated, number_limit}
 use Rattle.numerals.proofs.SignedLaws.{plain_read, plain_refused, negated_read, negated_zero, negated_refused, below_zero, below_zero_fits}
 use Rattle.numerals.proofs.signed.read_signed.Goals as goal
+
+-- A number that is read fits with its sign, and so does what is below zero by it.
+signed_is : (n : ℕ) → n ≤ beyond_limits → to_z w32 n ≡ pos n
+signed_is n l = to_z_pos w32 (omega arith)
+
+negated_fits : (n : ℕ) → n ≤ beyond_limits → SFits w32 (pos 0 -ℤ to_z w32 n)
+negated_fits n l = rw (signed_is n l) (below_zero_fits n l)
 
 pub overflow_add-at : goal.overflow_add-at
 overflow_add-at c =
@@ -42,20 +49,18 @@ overflow_cast-result c =
 
 pub overflow_sub-result : goal.overflow_sub-result
 overflow_sub-result c =
-    let signed_is : to_z w32 c.in-Read.value ≡ pos c.in-Read.value =
-    to_z_pos w32 (cast-t11 c).sfits in
     let small : c.in-Read.value ≤ beyond_limits =
     number_limit _ _ _ _ (sym c.read_number.ensures ∙ c.in-Read.is) in
-    rw (signed_is) (below_zero_fits _ (small))
+    negated_fits _ small
 
 pub returns-then-minus_at : goal.returns-then-minus_at
 returns-then-minus_at c =
     let has-minus : minus_at c.args.text.now c.args.at ≡ true =
     sym c.minus_at.ensures ∙ c.if-minus_at.true in
-    let signed_is : to_z w32 c.in-Read.value ≡ pos c.in-Read.value =
-    to_z_pos w32 (cast-t11 c).sfits in
+    let small : c.in-Read.value ≤ beyond_limits =
+    number_limit _ _ _ _ (sym c.read_number.ensures ∙ c.in-Read.is) in
     let minus = has-minus in
-    rw (to_z-of_z (sub-t12 c), signed_is, below_zero c.in-Read.value)
+    rw (to_z-of_z (negated_fits _ small), signed_is _ small, below_zero c.in-Read.value)
     (sym (signed_negated _ _ (minus_inside _ _ minus) minus ∙
     negated_read _ _ _ (sym c.read_number.ensures ∙ c.in-Read.is) c.if-value-eq0.false))
 
@@ -70,6 +75,9 @@ overflow_cast-result-2 c =
     omega (arith, small_plain)
 
 pub returns : goal.returns
-returns c = rw (to_z_pos w32 (cast-t14 c).sfits)
+returns c =
+    let small_plain : c.in-Read-read_number.value ≤ beyond_limits =
+    number_limit _ _ _ _ (sym c.read_number-2.ensures ∙ c.in-Read-read_number.is) in
+    rw (signed_is _ small_plain)
     (sym (signed_plain _ _ (sym c.minus_at.ensures ∙ c.if-minus_at.false) ∙
     plain_read _ _ _ (sym c.read_number-2.ensures ∙ c.in-Read-read_number.is)))
