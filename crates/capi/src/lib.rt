@@ -1,4 +1,4 @@
-// The calls for C. In C each slice is a pointer and a length, in this order; `include/battenplum.h` documents them.
+// The calls that `capi_c` exports to C, with their answers packed into numbers.
 #![tactic(auto)]
 
 ghost use Rattle.std.specs.Prelude.{◌≡◌, ◌≤◌, length};
@@ -36,8 +36,7 @@ fn pack(verdict: Verdict) -> u32
 }
 
 // The verdict on a text, from tables of full size held inside the call.
-#[unsafe(no_mangle)]
-pub extern "C" fn battenplum_verdict(text: &[u8]) -> u32
+pub fn battenplum_verdict(text: &[u8]) -> u32
     ensures { result ≡ packed (outcome_of text.now).verdict }
 {
     let mut values = [0u8; MAX_ATOMS];
@@ -48,16 +47,14 @@ pub extern "C" fn battenplum_verdict(text: &[u8]) -> u32
 }
 
 // The report of a text, as the program prints it, at the front of a page; the answer is its length, or 0 for a page that is too short.
-#[unsafe(no_mangle)]
-pub extern "C" fn battenplum_report(text: &[u8], page: &mut [u8]) -> usize
+pub fn battenplum_report(text: &[u8], page: &mut [u8]) -> usize
     ensures { Reported text.now page.old result page.new }
 {
     report(text, page)
 }
 
 // The check of a claim on lent tables.
-#[unsafe(no_mangle)]
-pub extern "C" fn battenplum_check(
+pub fn battenplum_check(
     n: usize,
     rules: &[u16],
     literals: &[u16],
@@ -88,8 +85,7 @@ pub extern "C" fn battenplum_check(
 }
 
 // The maker on lent tables: rounds × 2^32 above the packed verdict.
-#[unsafe(no_mangle)]
-pub extern "C" fn battenplum_evaluate(
+pub fn battenplum_evaluate(
     n: usize,
     rules: &[u16],
     literals: &[u16],
@@ -128,8 +124,7 @@ pub extern "C" fn battenplum_evaluate(
 }
 
 // The maker that follows the index, on lent tables and with the index and the counts in lent slices: rounds × 2^32 above the packed verdict.
-#[unsafe(no_mangle)]
-pub extern "C" fn battenplum_evaluate_indexed(
+pub fn battenplum_evaluate_indexed(
     n: usize,
     rules: &[u16],
     literals: &[u16],
@@ -182,8 +177,7 @@ pub extern "C" fn battenplum_evaluate_indexed(
 }
 
 // The writer on lent tables and a claim: the text's length × 2^32 above the packed verdict.
-#[unsafe(no_mangle)]
-pub extern "C" fn battenplum_write(
+pub fn battenplum_write(
     n: usize,
     rules: &[u16],
     literals: &[u16],
@@ -219,8 +213,7 @@ pub extern "C" fn battenplum_write(
 }
 
 // The index of lent tables, built in two lent slices.
-#[unsafe(no_mangle)]
-pub extern "C" fn battenplum_index(
+pub fn battenplum_index(
     n: usize,
     rules: &[u16],
     literals: &[u16],
@@ -268,8 +261,7 @@ fn put_counts(answer: &mut [u32], book: Book)
 }
 
 // The reader into lent tables, with what it counted in seven places.
-#[unsafe(no_mangle)]
-pub extern "C" fn battenplum_read(
+pub fn battenplum_read(
     text: &[u8],
     rules: &mut [u16],
     literals: &mut [u16],

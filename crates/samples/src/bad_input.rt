@@ -1,15 +1,23 @@
 // Lent tables and claims with a fault: each line has what is wrong, the verdict's number and its position.
 use checker::check;
 use shown::{end_line, show_verdict};
+use std::io;
 use tables::Verdict;
 
-fn show(name: &[u8], verdict: Verdict) {
-    show_verdict(name, verdict);
-    end_line();
+fn show(rt: &impl Print, name: &[u8], verdict: Verdict) -> io::Result<()> {
+    show_verdict(rt, name, verdict)?;
+    end_line(rt)
 }
 
 // A claim on one true atom at a level, with rules, literals and clauses.
-fn claim(name: &[u8], rules: &[u16], literals: &[u16], clauses: &[u16], level: u16) {
+fn claim(
+    rt: &impl Print,
+    name: &[u8],
+    rules: &[u16],
+    literals: &[u16],
+    clauses: &[u16],
+    level: u16,
+) -> io::Result<()> {
     let none = [0i32; 0];
     let no_literals = [0u16; 0];
     let no_minutes = [0i16; 0];
@@ -28,57 +36,80 @@ fn claim(name: &[u8], rules: &[u16], literals: &[u16], clauses: &[u16], level: u
         &values,
         &levels,
     );
-    show(name, verdict);
+    show(rt, name, verdict)
 }
 
 // One rule row over one literal.
-fn rule_row(name: &[u8], head: u16, start: u16, size: u16) {
+fn rule_row(rt: &impl Print, name: &[u8], head: u16, start: u16, size: u16) -> io::Result<()> {
     let rules = [head, start, size];
     let literals = [0u16];
     let clauses = [0u16; 0];
-    claim(name, &rules, &literals, &clauses, 1);
+    claim(rt, name, &rules, &literals, &clauses, 1)
 }
 
 // One clause row over one literal.
-fn clause_row(name: &[u8], literal: u16, start: u16, size: u16) {
+fn clause_row(rt: &impl Print, name: &[u8], literal: u16, start: u16, size: u16) -> io::Result<()> {
     let rules = [0u16; 0];
     let literals = [literal];
     let clauses = [start, size];
-    claim(name, &rules, &literals, &clauses, 0);
+    claim(rt, name, &rules, &literals, &clauses, 0)
 }
 
 // Two literals that nothing uses.
-fn unused(name: &[u8], first: u16, second: u16) {
+fn unused(rt: &impl Print, name: &[u8], first: u16, second: u16) -> io::Result<()> {
     let rules = [0u16; 0];
     let literals = [first, second];
     let clauses = [0u16; 0];
-    claim(name, &rules, &literals, &clauses, 0);
+    claim(rt, name, &rules, &literals, &clauses, 0)
 }
 
 // A claim whose tables are the first so many of the zeros.
-fn parts(name: &[u8], zeros: &[u16], rules: usize, literals: usize, clauses: usize) {
+fn parts(
+    rt: &impl Print,
+    name: &[u8],
+    zeros: &[u16],
+    rules: usize,
+    literals: usize,
+    clauses: usize,
+) -> io::Result<()> {
     if rules <= zeros.len() {
         if literals <= zeros.len() {
             if clauses <= zeros.len() {
                 claim(
+                    rt,
                     name,
                     &zeros[0..rules],
                     &zeros[0..literals],
                     &zeros[0..clauses],
                     0,
-                );
+                )?;
             }
         }
     }
+    Ok(())
 }
 
-fn sizes(name: &[u8], rules: usize, literals: usize, clauses: usize) {
+fn sizes(
+    rt: &impl Print,
+    name: &[u8],
+    rules: usize,
+    literals: usize,
+    clauses: usize,
+) -> io::Result<()> {
     let zeros = [0u16; 16386];
-    parts(name, &zeros, rules, literals, clauses);
+    parts(rt, name, &zeros, rules, literals, clauses)
 }
 
 // One load row over one true literal.
-fn load_row(name: &[u8], low: i32, high: i32, start: i32, size: i32, minutes: i16) {
+fn load_row(
+    rt: &impl Print,
+    name: &[u8],
+    low: i32,
+    high: i32,
+    start: i32,
+    size: i32,
+    minutes: i16,
+) -> io::Result<()> {
     let none = [0u16; 0];
     let loads = [low, high, start, size];
     let load_literals = [0u16];
@@ -98,11 +129,18 @@ fn load_row(name: &[u8], low: i32, high: i32, start: i32, size: i32, minutes: i1
         &values,
         &levels,
     );
-    show(name, verdict);
+    show(rt, name, verdict)
 }
 
 // An open atom and one that is a fact, with these values and levels.
-fn values_and_levels(name: &[u8], first: u8, second: u8, first_level: u16, second_level: u16) {
+fn values_and_levels(
+    rt: &impl Print,
+    name: &[u8],
+    first: u8,
+    second: u8,
+    first_level: u16,
+    second_level: u16,
+) -> io::Result<()> {
     let none = [0u16; 0];
     let no_loads = [0i32; 0];
     let no_minutes = [0i16; 0];
@@ -122,12 +160,12 @@ fn values_and_levels(name: &[u8], first: u8, second: u8, first_level: u16, secon
         &values,
         &levels,
     );
-    show(name, verdict);
+    show(rt, name, verdict)
 }
 
 // Rows that overlap in the literal table, with a literal twice and with its complement: (rule 1 0 0 (not 0)),
 // (rule 1 0 (not 0)), (clause 0 0), (clause 0 (not 0)).
-fn overlapping(name: &[u8], first: u8, second: u8) {
+fn overlapping(rt: &impl Print, name: &[u8], first: u8, second: u8) -> io::Result<()> {
     let rules = [1u16, 0, 3, 1, 1, 2];
     let literals = [0u16, 0, 1];
     let clauses = [0u16, 2, 1, 2];
@@ -149,11 +187,11 @@ fn overlapping(name: &[u8], first: u8, second: u8) {
         &values,
         &levels,
     );
-    show(name, verdict);
+    show(rt, name, verdict)
 }
 
 // A load literal without its minutes.
-fn minutes_missing(name: &[u8]) {
+fn minutes_missing(rt: &impl Print, name: &[u8]) -> io::Result<()> {
     let none = [0u16; 0];
     let no_loads = [0i32; 0];
     let load_literals = [0u16];
@@ -173,11 +211,17 @@ fn minutes_missing(name: &[u8]) {
         &values,
         &levels,
     );
-    show(name, verdict);
+    show(rt, name, verdict)
 }
 
 // So many open atoms, with marks for them and that many values and levels.
-fn open_atoms(name: &[u8], atoms: usize, valued: usize, levelled: usize) {
+fn open_atoms(
+    rt: &impl Print,
+    name: &[u8],
+    atoms: usize,
+    valued: usize,
+    levelled: usize,
+) -> io::Result<()> {
     let none = [0u16; 0];
     let no_loads = [0i32; 0];
     let no_minutes = [0i16; 0];
@@ -199,107 +243,108 @@ fn open_atoms(name: &[u8], atoms: usize, valued: usize, levelled: usize) {
                     &values[0..valued],
                     &levels[0..levelled],
                 );
-                show(name, verdict);
+                show(rt, name, verdict)?;
             }
         }
     }
+    Ok(())
 }
 
 // Numbers of atoms at their limits and past them, and values and levels of other numbers.
-fn run_atoms() {
-    open_atoms(b"no-atoms", 0, 0, 0);
-    open_atoms(b"1024-atoms", 1024, 1024, 1024);
-    open_atoms(b"1025-atoms", 1025, 1025, 1025);
-    open_atoms(b"values-too-short", 2, 1, 2);
-    open_atoms(b"levels-too-long", 2, 2, 3);
+fn run_atoms(rt: &impl Print) -> io::Result<()> {
+    open_atoms(rt, b"no-atoms", 0, 0, 0)?;
+    open_atoms(rt, b"1024-atoms", 1024, 1024, 1024)?;
+    open_atoms(rt, b"1025-atoms", 1025, 1025, 1025)?;
+    open_atoms(rt, b"values-too-short", 2, 1, 2)?;
+    open_atoms(rt, b"levels-too-long", 2, 2, 3)
 }
 
 // Tables of literals and rules at their limits, past them, and of no whole rows.
-fn run_rule_sizes() {
-    sizes(b"16384-literals", 0, 16384, 0);
-    sizes(b"16385-literals", 0, 16385, 0);
-    sizes(b"2048-rules-at-level-0", 6144, 0, 0);
-    sizes(b"2049-rules", 6147, 0, 0);
-    sizes(b"no-whole-rule-rows", 4, 0, 0);
+fn run_rule_sizes(rt: &impl Print) -> io::Result<()> {
+    sizes(rt, b"16384-literals", 0, 16384, 0)?;
+    sizes(rt, b"16385-literals", 0, 16385, 0)?;
+    sizes(rt, b"2048-rules-at-level-0", 6144, 0, 0)?;
+    sizes(rt, b"2049-rules", 6147, 0, 0)?;
+    sizes(rt, b"no-whole-rule-rows", 4, 0, 0)
 }
 
 // The same of clauses, and minutes that are missing.
-fn run_clause_sizes() {
-    sizes(b"2048-empty-clauses", 0, 0, 4096);
-    sizes(b"2049-clauses", 0, 0, 4098);
-    sizes(b"no-whole-clause-rows", 0, 0, 1);
-    minutes_missing(b"minutes-missing");
+fn run_clause_sizes(rt: &impl Print) -> io::Result<()> {
+    sizes(rt, b"2048-empty-clauses", 0, 0, 4096)?;
+    sizes(rt, b"2049-clauses", 0, 0, 4098)?;
+    sizes(rt, b"no-whole-clause-rows", 0, 0, 1)?;
+    minutes_missing(rt, b"minutes-missing")
 }
 
 // Rows of rules and clauses, and literals, out of range.
-fn run_bad_rows() {
-    rule_row(b"head-out-of-range", 1, 0, 0);
-    rule_row(b"rule-past-the-end", 0, 65535, 65535);
-    rule_row(b"empty-rule-past-the-end", 0, 2, 0);
-    rule_row(b"empty-rule-at-the-end", 0, 1, 0);
-    clause_row(b"clause-past-the-end", 0, 1, 1);
-    clause_row(b"clause-literal-out-of-range", 2, 0, 1);
-    unused(b"unused-literal-out-of-range", 1, 2);
+fn run_bad_rows(rt: &impl Print) -> io::Result<()> {
+    rule_row(rt, b"head-out-of-range", 1, 0, 0)?;
+    rule_row(rt, b"rule-past-the-end", 0, 65535, 65535)?;
+    rule_row(rt, b"empty-rule-past-the-end", 0, 2, 0)?;
+    rule_row(rt, b"empty-rule-at-the-end", 0, 1, 0)?;
+    clause_row(rt, b"clause-past-the-end", 0, 1, 1)?;
+    clause_row(rt, b"clause-literal-out-of-range", 2, 0, 1)?;
+    unused(rt, b"unused-literal-out-of-range", 1, 2)
 }
 
 // Load rows at the ends of their ranges and past them.
-fn run_bad_loads() {
-    load_row(b"load-past-the-end", 0, 0, 2147483647, 2147483647, 6);
-    load_row(b"negative-start", 0, 0, -2147483647, 0, 6);
-    load_row(b"negative-count", 0, 0, 0, -1, 6);
-    load_row(b"bounds-at-their-ends", -1000000, 1000000, 0, 1, 6);
-    load_row(b"low-bound-out-of-range", -1000001, 0, 0, 0, 6);
-    load_row(b"high-bound-out-of-range", 0, 1000001, 0, 0, 6);
-    load_row(b"minutes-at-their-end", -240, -240, 0, 1, -1440);
-    load_row(b"minutes-out-of-range", 0, 0, 0, 0, 1441);
+fn run_bad_loads(rt: &impl Print) -> io::Result<()> {
+    load_row(rt, b"load-past-the-end", 0, 0, 2147483647, 2147483647, 6)?;
+    load_row(rt, b"negative-start", 0, 0, -2147483647, 0, 6)?;
+    load_row(rt, b"negative-count", 0, 0, 0, -1, 6)?;
+    load_row(rt, b"bounds-at-their-ends", -1000000, 1000000, 0, 1, 6)?;
+    load_row(rt, b"low-bound-out-of-range", -1000001, 0, 0, 0, 6)?;
+    load_row(rt, b"high-bound-out-of-range", 0, 1000001, 0, 0, 6)?;
+    load_row(rt, b"minutes-at-their-end", -240, -240, 0, 1, -1440)?;
+    load_row(rt, b"minutes-out-of-range", 0, 0, 0, 0, 1441)
 }
 
 // Values and levels that are none, or wrong.
-fn run_bad_claims() {
-    values_and_levels(b"right", 0, 1, 0, 1);
-    values_and_levels(b"value-2", 0, 2, 0, 1);
-    values_and_levels(b"value-255", 255, 2, 0, 1);
-    values_and_levels(b"level-at-an-open-atom", 0, 1, 1, 1);
-    values_and_levels(b"level-0-at-a-defined-atom", 0, 1, 0, 0);
-    values_and_levels(b"level-above-D", 0, 1, 0, 2);
-    values_and_levels(b"fact-claimed-false", 0, 0, 0, 1);
+fn run_bad_claims(rt: &impl Print) -> io::Result<()> {
+    values_and_levels(rt, b"right", 0, 1, 0, 1)?;
+    values_and_levels(rt, b"value-2", 0, 2, 0, 1)?;
+    values_and_levels(rt, b"value-255", 255, 2, 0, 1)?;
+    values_and_levels(rt, b"level-at-an-open-atom", 0, 1, 1, 1)?;
+    values_and_levels(rt, b"level-0-at-a-defined-atom", 0, 1, 0, 0)?;
+    values_and_levels(rt, b"level-above-D", 0, 1, 0, 2)?;
+    values_and_levels(rt, b"fact-claimed-false", 0, 0, 0, 1)
 }
 
 // Rows that overlap, and clauses that fail.
-fn run_clauses() {
-    overlapping(b"overlapping-rows", 1, 0);
-    overlapping(b"overlapping-rows-clause-fails", 0, 0);
-    overlapping(b"overlapping-rows-claimed-true", 1, 1);
-    clause_row(b"empty-clause", 0, 0, 0);
-    clause_row(b"clause-of-a-false-literal", 1, 0, 1);
+fn run_clauses(rt: &impl Print) -> io::Result<()> {
+    overlapping(rt, b"overlapping-rows", 1, 0)?;
+    overlapping(rt, b"overlapping-rows-clause-fails", 0, 0)?;
+    overlapping(rt, b"overlapping-rows-claimed-true", 1, 1)?;
+    clause_row(rt, b"empty-clause", 0, 0, 0)?;
+    clause_row(rt, b"clause-of-a-false-literal", 1, 0, 1)
 }
 
 // Minutes halfway between two tenths of an hour, which count as the even one; the last line asks for the odd one and is refused.
-fn run_halves() {
-    load_row(b"tenths-of-3-minutes", 0, 0, 0, 1, 3);
-    load_row(b"tenths-of-minus-3-minutes", 0, 0, 0, 1, -3);
-    load_row(b"tenths-of-9-minutes", 2, 2, 0, 1, 9);
-    load_row(b"tenths-of-minus-9-minutes", -2, -2, 0, 1, -9);
-    load_row(b"tenths-of-15-minutes", 2, 2, 0, 1, 15);
-    load_row(b"odd-tenth-of-3-minutes", 1, 1, 0, 1, 3);
+fn run_halves(rt: &impl Print) -> io::Result<()> {
+    load_row(rt, b"tenths-of-3-minutes", 0, 0, 0, 1, 3)?;
+    load_row(rt, b"tenths-of-minus-3-minutes", 0, 0, 0, 1, -3)?;
+    load_row(rt, b"tenths-of-9-minutes", 2, 2, 0, 1, 9)?;
+    load_row(rt, b"tenths-of-minus-9-minutes", -2, -2, 0, 1, -9)?;
+    load_row(rt, b"tenths-of-15-minutes", 2, 2, 0, 1, 15)?;
+    load_row(rt, b"odd-tenth-of-3-minutes", 1, 1, 0, 1, 3)
 }
 
 // Minutes nearer to one tenth than to any other, and bounds that nothing is between.
-fn run_loads() {
-    load_row(b"tenths-of-2-minutes", 1, 1, 0, 1, 2);
-    load_row(b"tenths-of-4-minutes", 1, 1, 0, 1, 4);
-    load_row(b"low-above-high", 1, 0, 0, 0, 6);
+fn run_loads(rt: &impl Print) -> io::Result<()> {
+    load_row(rt, b"tenths-of-2-minutes", 1, 1, 0, 1, 2)?;
+    load_row(rt, b"tenths-of-4-minutes", 1, 1, 0, 1, 4)?;
+    load_row(rt, b"low-above-high", 1, 0, 0, 0, 6)
 }
 
 // The samples of each function are few: what is known of every one before is carried along while one is proved.
-pub fn run_bad_input() {
-    run_atoms();
-    run_rule_sizes();
-    run_clause_sizes();
-    run_bad_rows();
-    run_bad_loads();
-    run_bad_claims();
-    run_clauses();
-    run_halves();
-    run_loads();
+pub fn run_bad_input(rt: &impl Print) -> io::Result<()> {
+    run_atoms(rt)?;
+    run_rule_sizes(rt)?;
+    run_clause_sizes(rt)?;
+    run_bad_rows(rt)?;
+    run_bad_loads(rt)?;
+    run_bad_claims(rt)?;
+    run_clauses(rt)?;
+    run_halves(rt)?;
+    run_loads(rt)
 }

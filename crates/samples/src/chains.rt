@@ -3,6 +3,7 @@ ghost use Rattle.std.specs.Prelude.{◌≤◌};
 
 use evaluator::evaluate;
 use shown::{end_line, show_level, show_number, show_value, show_verdict};
+use std::io;
 
 // The atom that the rule of a row rests on.
 fn chain_atom(row: usize, falling: bool) -> u16
@@ -42,7 +43,13 @@ fn chain_literals(sign: u16) -> [u16; 1023]
     literals
 }
 
-fn chain(name: &[u8], rules: &[u16], literals: &[u16], first: u8) {
+fn chain(
+    rt: &impl Print,
+    name: &[u8],
+    rules: &[u16],
+    literals: &[u16],
+    first: u8,
+) -> io::Result<()> {
     let none = [0u16; 0];
     let no_loads = [0i32; 0];
     let no_minutes = [0i16; 0];
@@ -68,20 +75,20 @@ fn chain(name: &[u8], rules: &[u16], literals: &[u16], first: u8) {
     );
     let verdict = answer.verdict;
     let rounds = answer.rounds;
-    show_verdict(name, verdict);
-    show_number(b" rounds ", rounds);
-    show_value(b" last ", values[1023]);
-    show_level(b" level ", levels[1023]);
-    end_line();
+    show_verdict(rt, name, verdict)?;
+    show_number(rt, b" rounds ", rounds)?;
+    show_value(rt, b" last ", values[1023])?;
+    show_level(rt, b" level ", levels[1023])?;
+    end_line(rt)
 }
 
-pub fn run_chains() {
+pub fn run_chains(rt: &impl Print) -> io::Result<()> {
     let rising = chain_rules(false);
     let falling = chain_rules(true);
     let positive = chain_literals(0);
     let negated = chain_literals(1);
-    chain(b"chain", &rising, &positive, 1);
-    chain(b"chain-falling", &falling, &positive, 1);
-    chain(b"chain-negated", &rising, &negated, 0);
-    chain(b"chain-negated-falling", &falling, &negated, 0);
+    chain(rt, b"chain", &rising, &positive, 1)?;
+    chain(rt, b"chain-falling", &falling, &positive, 1)?;
+    chain(rt, b"chain-negated", &rising, &negated, 0)?;
+    chain(rt, b"chain-negated-falling", &falling, &negated, 0)
 }

@@ -1,11 +1,12 @@
 // The claims among the samples. Each line has the sample's name, the verdict's number and its position.
 use checker::check;
 use shown::{end_line, show_verdict};
+use std::io;
 use tables::Verdict;
 
-fn show(name: &[u8], verdict: Verdict) {
-    show_verdict(name, verdict);
-    end_line();
+fn show(rt: &impl Print, name: &[u8], verdict: Verdict) -> io::Result<()> {
+    show_verdict(rt, name, verdict)?;
+    end_line(rt)
 }
 
 // Book A: (rule 1 0), (rule 1 2), (rule 2 1), (rule 3 (not 1)), (clause 1 3), (load 0 HIGH (60 3)).
@@ -79,30 +80,34 @@ fn either_or(values: &[u8], levels: &[u16]) -> Verdict {
 }
 
 // Claims on book A.
-fn run_book_a() {
-    show(b"A", book_a(10, &[0u8, 0, 0, 1], &[0u16, 1, 1, 2]));
-    show(b"A-open-0", book_a(10, &[1u8, 1, 1, 0], &[0u16, 1, 2, 2]));
-    show(b"P3", book_a(10, &[0u8, 1, 1, 0], &[0u16, 1, 2, 2]));
-    show(b"P4", book_a(10, &[0u8, 1, 1, 0], &[0u16, 2, 1, 2]));
+fn run_book_a(rt: &impl Print) -> io::Result<()> {
+    show(rt, b"A", book_a(10, &[0u8, 0, 0, 1], &[0u16, 1, 1, 2]))?;
+    show(
+        rt,
+        b"A-open-0",
+        book_a(10, &[1u8, 1, 1, 0], &[0u16, 1, 2, 2]),
+    )?;
+    show(rt, b"P3", book_a(10, &[0u8, 1, 1, 0], &[0u16, 1, 2, 2]))?;
+    show(rt, b"P4", book_a(10, &[0u8, 1, 1, 0], &[0u16, 2, 1, 2]))
 }
 
 // Claims on one atom.
-fn run_one_atom() {
-    show(b"P6", self_support(&[0u8], &[1u16]));
-    show(b"P7", fact(&[1u8], &[1u16]));
-    show(b"P7-false", fact(&[0u8], &[1u16]));
+fn run_one_atom(rt: &impl Print) -> io::Result<()> {
+    show(rt, b"P6", self_support(&[0u8], &[1u16]))?;
+    show(rt, b"P7", fact(&[1u8], &[1u16]))?;
+    show(rt, b"P7-false", fact(&[0u8], &[1u16]))
 }
 
 // Claims with other levels and with another bound.
-fn run_others() {
-    show(b"P8-2-1", either_or(&[1u8, 0], &[2u16, 1]));
-    show(b"P8-1-1", either_or(&[1u8, 0], &[1u16, 1]));
-    show(b"P9", fact(&[1u8], &[2u16]));
-    show(b"P10", book_a(9, &[0u8, 0, 0, 1], &[0u16, 1, 1, 2]));
+fn run_others(rt: &impl Print) -> io::Result<()> {
+    show(rt, b"P8-2-1", either_or(&[1u8, 0], &[2u16, 1]))?;
+    show(rt, b"P8-1-1", either_or(&[1u8, 0], &[1u16, 1]))?;
+    show(rt, b"P9", fact(&[1u8], &[2u16]))?;
+    show(rt, b"P10", book_a(9, &[0u8, 0, 0, 1], &[0u16, 1, 1, 2]))
 }
 
-pub fn run_claims() {
-    run_book_a();
-    run_one_atom();
-    run_others();
+pub fn run_claims(rt: &impl Print) -> io::Result<()> {
+    run_book_a(rt)?;
+    run_one_atom(rt)?;
+    run_others(rt)
 }

@@ -3,6 +3,7 @@
 
 use claims::run_claims;
 use evaluated::run_evaluations;
+use std::io;
 
 mod bad_input;
 mod chains;
@@ -12,12 +13,12 @@ mod marks;
 mod pages;
 mod paper;
 
-fn main() {
-    paper::run_paper();
-    pages::run_pages();
-    run_claims();
-    run_evaluations();
-    bad_input::run_bad_input();
-    chains::run_chains();
-    marks::run_marks();
+fn main(rt: HostRuntime) -> io::Result<()> {
+    paper::run_paper(&rt)?;
+    pages::run_pages(&rt)?;
+    run_claims(&rt)?;
+    run_evaluations(&rt)?;
+    bad_input::run_bad_input(&rt)?;
+    chains::run_chains(&rt)?;
+    marks::run_marks(&rt)
 }

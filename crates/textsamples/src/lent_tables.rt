@@ -4,35 +4,35 @@ ghost use Rattle.std.specs.Prelude.{◌≤◌, length};
 use super::texts::show_book;
 use booktext::{Book, read};
 use shown::{end_line, show_levels, show_values};
+use std::io;
 
-fn show_whole(number: i32) {
+fn show_whole(rt: &impl Print, number: i32) -> io::Result<()> {
     if number < 0 {
-        io::write_all(1, b" -");
-        io::print_decimal(1, (0 - number as i64) as u64);
+        rt.write_all(b" -")?;
+        rt.print((0 - number as i64) as u64)?;
     } else {
-        io::write_all(1, b" ");
-        io::print_decimal(1, number as u64);
+        rt.write_all(b" ")?;
+        rt.print(number as u64)?;
     }
+    Ok(())
 }
 
-fn bar() {
-    io::write_all(1, b" |");
+fn bar(rt: &impl Print) -> io::Result<()> {
+    rt.write_all(b" |")
 }
 
-fn show_loads(loads: &[i32]) {
-    let mut place = 0;
-    while place < loads.len() {
-        show_whole(loads[place]);
-        place += 1;
+fn show_loads(rt: &impl Print, loads: &[i32]) -> io::Result<()> {
+    for load in loads {
+        show_whole(rt, *load)?;
     }
+    Ok(())
 }
 
-fn show_minutes(minutes: &[i16]) {
-    let mut place = 0;
-    while place < minutes.len() {
-        show_whole(minutes[place] as i32);
-        place += 1;
+fn show_minutes(rt: &impl Print, minutes: &[i16]) -> io::Result<()> {
+    for worked in minutes {
+        show_whole(rt, *worked as i32)?;
     }
+    Ok(())
 }
 
 // How many entries a table is lent with: what the text needs, or one less where it is the short one.
@@ -44,12 +44,13 @@ fn lent(needed: usize, table: usize, short: usize) -> usize
 }
 
 // A table of rules, clauses, literals or levels, after a bar.
-fn show_entries(entries: &[u16]) {
-    bar();
-    show_levels(entries);
+fn show_entries(rt: &impl Print, entries: &[u16]) -> io::Result<()> {
+    bar(rt)?;
+    show_levels(rt, entries)
 }
 
 pub fn show_tables(
+    rt: &impl Print,
     rules: &[u16],
     literals: &[u16],
     clauses: &[u16],
@@ -59,21 +60,21 @@ pub fn show_tables(
     marks: &[u8],
     values: &[u8],
     levels: &[u16],
-) {
-    show_entries(rules);
-    show_entries(literals);
-    show_entries(clauses);
-    bar();
-    show_loads(loads);
-    show_entries(load_literals);
-    bar();
-    show_minutes(minutes);
-    bar();
-    show_values(marks);
-    bar();
-    show_values(values);
-    show_entries(levels);
-    end_line();
+) -> io::Result<()> {
+    show_entries(rt, rules)?;
+    show_entries(rt, literals)?;
+    show_entries(rt, clauses)?;
+    bar(rt)?;
+    show_loads(rt, loads)?;
+    show_entries(rt, load_literals)?;
+    bar(rt)?;
+    show_minutes(rt, minutes)?;
+    bar(rt)?;
+    show_values(rt, marks)?;
+    bar(rt)?;
+    show_values(rt, values)?;
+    show_entries(rt, levels)?;
+    end_line(rt)
 }
 
 // Reads a text that needs 3 rule entries, 3 literals, 2 clause entries, 4 load entries, 1 term, 2 marks, 2 values and 2 levels.
@@ -118,7 +119,7 @@ fn read_lent(
 }
 
 // The tables are shown with one entry more than the text needs.
-fn show_lent(name: &[u8], text: &[u8], short: usize) {
+fn show_lent(rt: &impl Print, name: &[u8], text: &[u8], short: usize) -> io::Result<()> {
     let mut rules = [9u16; 4];
     let mut literals = [9u16; 4];
     let mut clauses = [9u16; 3];
@@ -141,8 +142,9 @@ fn show_lent(name: &[u8], text: &[u8], short: usize) {
         &mut values,
         &mut levels,
     );
-    show_book(name, book);
+    show_book(rt, name, book)?;
     show_tables(
+        rt,
         &rules,
         &literals,
         &clauses,
@@ -152,74 +154,83 @@ fn show_lent(name: &[u8], text: &[u8], short: usize) {
         &marks,
         &values,
         &levels,
-    );
+    )
 }
 
-fn show_claim(name: &[u8], short: usize) {
+fn show_claim(rt: &impl Print, name: &[u8], short: usize) -> io::Result<()> {
     show_lent(
+        rt,
         name,
         b"(atoms 2)\n(rule 1 0 (not 1))\n(clause 1)\n(load -5 7 (-90 (not 0)))\n(claim (0 0) (1 1))\n",
         short,
-    );
+    )
 }
 
-fn show_open(name: &[u8], short: usize) {
+fn show_open(rt: &impl Print, name: &[u8], short: usize) -> io::Result<()> {
     show_lent(
+        rt,
         name,
         b"(atoms 2)\n(rule 1 0 (not 1))\n(clause 1)\n(load -5 7 (-90 (not 0)))\n(open 0)\n",
         short,
-    );
+    )
 }
 
-fn show_defined(name: &[u8], short: usize) {
+fn show_defined(rt: &impl Print, name: &[u8], short: usize) -> io::Result<()> {
     show_lent(
+        rt,
         name,
         b"(atoms 2)\n(defined 1)\n(rule 1 0 (not 1))\n(clause 1)\n(load -5 7 (-90 (not 0)))\n(claim (0 0) (1 1))\n",
         short,
-    );
+    )
 }
 
 // One of the first four tables is too short.
-fn run_short_rows() {
-    show_claim(b"rules-short", 0);
-    show_claim(b"literals-short", 1);
-    show_claim(b"clauses-short", 2);
-    show_claim(b"loads-short", 3);
+fn run_short_rows(rt: &impl Print) -> io::Result<()> {
+    show_claim(rt, b"rules-short", 0)?;
+    show_claim(rt, b"literals-short", 1)?;
+    show_claim(rt, b"clauses-short", 2)?;
+    show_claim(rt, b"loads-short", 3)
 }
 
 // One of the last five is.
-fn run_short_entries() {
-    show_claim(b"load-literals-short", 4);
-    show_claim(b"minutes-short", 5);
-    show_claim(b"marks-short", 6);
-    show_claim(b"values-short", 7);
-    show_claim(b"levels-short", 8);
+fn run_short_entries(rt: &impl Print) -> io::Result<()> {
+    show_claim(rt, b"load-literals-short", 4)?;
+    show_claim(rt, b"minutes-short", 5)?;
+    show_claim(rt, b"marks-short", 6)?;
+    show_claim(rt, b"values-short", 7)?;
+    show_claim(rt, b"levels-short", 8)
 }
 
 // One of those that a state form needs is, for an open form.
-fn run_short_open() {
-    show_open(b"open-marks-short", 6);
-    show_open(b"open-values-short", 7);
-    show_open(b"open-levels-short", 8);
+fn run_short_open(rt: &impl Print) -> io::Result<()> {
+    show_open(rt, b"open-marks-short", 6)?;
+    show_open(rt, b"open-values-short", 7)?;
+    show_open(rt, b"open-levels-short", 8)
 }
 
 // Atoms declared defined: with a claim, with an open form, with short marks, and with short marks and no state form.
-fn run_defined() {
-    show_defined(b"defined-held", 9);
+fn run_defined(rt: &impl Print) -> io::Result<()> {
+    show_defined(rt, b"defined-held", 9)?;
     show_lent(
+        rt,
         b"all-defined-held",
         b"(atoms 2)\n(defined 0 1)\n(open)\n",
         9,
-    );
-    show_defined(b"defined-marks-short", 6);
-    show_lent(b"state-missing-beats-space", b"(atoms 2)\n(defined 1)\n", 6);
+    )?;
+    show_defined(rt, b"defined-marks-short", 6)?;
+    show_lent(
+        rt,
+        b"state-missing-beats-space",
+        b"(atoms 2)\n(defined 1)\n",
+        6,
+    )
 }
 
-pub fn run_lent_tables() {
-    show_claim(b"claim-held", 9);
-    show_open(b"open-held", 9);
-    run_short_rows();
-    run_short_entries();
-    run_short_open();
-    run_defined();
+pub fn run_lent_tables(rt: &impl Print) -> io::Result<()> {
+    show_claim(rt, b"claim-held", 9)?;
+    show_open(rt, b"open-held", 9)?;
+    run_short_rows(rt)?;
+    run_short_entries(rt)?;
+    run_short_open(rt)?;
+    run_defined(rt)
 }

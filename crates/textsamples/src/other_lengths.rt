@@ -2,9 +2,10 @@
 use super::lent_tables::show_tables;
 use super::texts::show_book;
 use booktext::read;
+use std::io;
 
 // Five entries of the rule table hold one row.
-fn show_five(name: &[u8], text: &[u8]) {
+fn show_five(rt: &impl Print, name: &[u8], text: &[u8]) -> io::Result<()> {
     let mut rules = [9u16; 5];
     let mut none = [9u16; 0];
     let mut clauses = [9u16; 2];
@@ -26,8 +27,9 @@ fn show_five(name: &[u8], text: &[u8]) {
         &mut values,
         &mut levels,
     );
-    show_book(name, book);
+    show_book(rt, name, book)?;
     show_tables(
+        rt,
         &rules,
         &none,
         &clauses,
@@ -37,11 +39,11 @@ fn show_five(name: &[u8], text: &[u8]) {
         &marks,
         &values,
         &levels,
-    );
+    )
 }
 
 // Each table is longer than its limit; what lies beyond the limits is shown.
-fn show_long(name: &[u8], text: &[u8]) {
+fn show_long(rt: &impl Print, name: &[u8], text: &[u8]) -> io::Result<()> {
     let mut rules = [9u16; 6147];
     let mut literals = [9u16; 16385];
     let mut clauses = [9u16; 4098];
@@ -63,8 +65,9 @@ fn show_long(name: &[u8], text: &[u8]) {
         &mut values,
         &mut levels,
     );
-    show_book(name, book);
+    show_book(rt, name, book)?;
     show_tables(
+        rt,
         &rules[6144..6147],
         &literals[16384..16385],
         &clauses[4096..4098],
@@ -74,28 +77,33 @@ fn show_long(name: &[u8], text: &[u8]) {
         &marks[1024..1025],
         &values[1024..1025],
         &levels[1024..1025],
-    );
+    )
 }
 
-pub fn run_other_lengths() {
+pub fn run_other_lengths(rt: &impl Print) -> io::Result<()> {
     show_five(
+        rt,
         b"one-rule-in-five-entries",
         b"(atoms 1)\n(rule 0)\n(open)\n",
-    );
+    )?;
     show_five(
+        rt,
         b"two-rules-in-five-entries",
         b"(atoms 1)\n(rule 0)\n(rule 0)\n(open)\n",
-    );
+    )?;
     show_five(
+        rt,
         b"limits-beat-space",
         b"(atoms 1)\n(rule 0)\n(rule 1024)\n(open)\n",
-    );
+    )?;
     show_five(
+        rt,
         b"order-beats-space",
         b"(atoms 1)\n(rule 0)\n(clause)\n(rule 0)\n(open)\n",
-    );
+    )?;
     show_long(
+        rt,
         b"tables-longer-than-the-limits",
         b"(atoms 2)\n(rule 1 0 (not 1))\n(clause 1)\n(load -5 7 (-90 (not 0)))\n(claim (0 0) (1 1))\n",
-    );
+    )
 }

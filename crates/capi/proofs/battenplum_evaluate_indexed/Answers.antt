@@ -9,19 +9,19 @@ use Rattle.capi.proofs.battenplum_evaluate_indexed.Goals as goal
 pub overflow_mul-result : goal.overflow_mul-result
 overflow_mul-result c =
     let small : (position_of c.evaluate_indexed-followed.result.verdict ≤ max_position) × (c.evaluate_indexed-followed.result.rounds ≤ max_atoms) =
-        followed_small _ _ c.evaluate_indexed-followed.ensures in
+    followed_small _ _ c.evaluate_indexed-followed.ensures in
     omega (arith, (small).1)
 
 pub pack-requires : goal.pack-requires
 pack-requires c =
     let small : (position_of c.evaluate_indexed-followed.result.verdict ≤ max_position) × (c.evaluate_indexed-followed.result.rounds ≤ max_atoms) =
-        followed_small _ _ c.evaluate_indexed-followed.ensures in
+    followed_small _ _ c.evaluate_indexed-followed.ensures in
     (small).0
 
 pub overflow_add-result : goal.overflow_add-result
 overflow_add-result c =
     let small : (position_of c.evaluate_indexed-followed.result.verdict ≤ max_position) × (c.evaluate_indexed-followed.result.rounds ≤ max_atoms) =
-        followed_small _ _ c.evaluate_indexed-followed.ensures in
+    followed_small _ _ c.evaluate_indexed-followed.ensures in
     omega (arith, (small).1, c.pack.ensures, packed_small c.evaluate_indexed-followed.result.verdict (small).0)
 
 pub returns : goal.returns

@@ -13,7 +13,7 @@ read-book-requires c = tt
 pub put_counts-requires : goal.put_counts-requires
 put_counts-requires c =
     let seven : length c.args.answer.now ≡ 7 =
-        c.if-answer-ne7.false in
+    c.if-answer-ne7.false in
     record { answer_len = seven; within_book = read_within c.read-book.ensures }
 
 pub pack-requires : goal.pack-requires
@@ -52,5 +52,5 @@ shape_of-answer c = c.put_counts.auto.answer
 pub returns : goal.returns
 returns c =
     let seven : length c.args.answer.now ≡ 7 =
-        c.if-answer-ne7.false in
+    c.if-answer-ne7.false in
     read_answers (seven) c.read-book.ensures c.pack.ensures c.put_counts.ensures

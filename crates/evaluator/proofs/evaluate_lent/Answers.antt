@@ -22,9 +22,9 @@ pub returns-in-At : goal.returns-in-At
 unfolding lent
 returns-in-At c =
     let given : Tables =
-        lent (length c.args.setting.now) c.args.rules.now c.args.literals.now c.args.clauses.now c.args.loads.now c.args.load_literals.now c.args.minutes.now c.args.marks.now in
+    lent (length c.args.setting.now) c.args.rules.now c.args.literals.now c.args.clauses.now c.args.loads.now c.args.load_literals.now c.args.minutes.now c.args.marks.now in
     let mark-is : let t = given in c.not_held_atom.result ≡ lowest t.atoms (not_held t.marks) =
-        rw c.requires.marks_long at c.not_held_atom.ensures in
+    rw c.requires.marks_long at c.not_held_atom.ensures in
     mark_answer (given) _ _ _ _ _ _ (mark-is) c.in-At.is
 
 pub mark_defined-requires : goal.mark_defined-requires
@@ -39,43 +39,43 @@ pub returns-in-At-bad_setting : goal.returns-in-At-bad_setting
 unfolding lent
 returns-in-At-bad_setting c =
     let given : Tables =
-        lent (length c.args.setting.now) c.args.rules.now c.args.literals.now c.args.clauses.now c.args.loads.now c.args.load_literals.now c.args.minutes.now c.args.marks.now in
+    lent (length c.args.setting.now) c.args.rules.now c.args.literals.now c.args.clauses.now c.args.loads.now c.args.load_literals.now c.args.minutes.now c.args.marks.now in
     let mark-is : let t = given in c.not_held_atom.result ≡ lowest t.atoms (not_held t.marks) =
-        rw c.requires.marks_long at c.not_held_atom.ensures in
+    rw c.requires.marks_long at c.not_held_atom.ensures in
     let marks_fit : first_fault (start_tests (given) c.args.setting.now) ≡ first_fault (setting_test (book_of (given)) c.args.setting.now ∷ []) =
-        marks_left (given) _ _ (mark-is) c.in_default.is in
+    marks_left (given) _ _ (mark-is) c.in_default.is in
     let setting-is : c.bad_setting.result ≡ lowest (book_of (given)).size (bad_setting (book_of (given)) c.args.setting.now) =
-        c.bad_setting.ensures ∙ setting_same (given) _ _ _ _ refl c.requires _ c.mark_defined.ensures in
+    c.bad_setting.ensures ∙ setting_same (given) _ _ _ _ refl c.requires _ c.mark_defined.ensures in
     stopped_answer (given) _ _ _ _ _ _ (marks_fit) (setting-is) c.in-At-bad_setting.is
 
 pub evaluate_stages-rounds-requires : goal.evaluate_stages-rounds-requires
 unfolding lent
 evaluate_stages-rounds-requires c =
     let given : Tables =
-        lent (length c.args.setting.now) c.args.rules.now c.args.literals.now c.args.clauses.now c.args.loads.now c.args.load_literals.now c.args.minutes.now c.args.marks.now in
+    lent (length c.args.setting.now) c.args.rules.now c.args.literals.now c.args.clauses.now c.args.loads.now c.args.load_literals.now c.args.minutes.now c.args.marks.now in
     (book_of (given), stages_ready (given) _ _ _ _ refl c.requires _ c.mark_defined.ensures)
 
 pub model_fault-verdict-requires : goal.model_fault-verdict-requires
 unfolding lent
 model_fault-verdict-requires c =
     let given : Tables =
-        lent (length c.args.setting.now) c.args.rules.now c.args.literals.now c.args.clauses.now c.args.loads.now c.args.load_literals.now c.args.minutes.now c.args.marks.now in
+    lent (length c.args.setting.now) c.args.rules.now c.args.literals.now c.args.clauses.now c.args.loads.now c.args.load_literals.now c.args.minutes.now c.args.marks.now in
     let rounds-done : RoundsDone (book_of (given)) c.args.setting.now c.evaluate_stages-rounds.new.values c.evaluate_stages-rounds.new.levels c.evaluate_stages-rounds.new.work c.evaluate_stages-rounds.result =
-        c.evaluate_stages-rounds.ensures (book_of (given)) (stages_ready (given) _ _ _ _ refl c.requires _ c.mark_defined.ensures) in
+    c.evaluate_stages-rounds.ensures (book_of (given)) (stages_ready (given) _ _ _ _ refl c.requires _ c.mark_defined.ensures) in
     rw (done_long (rounds-done), book_size) (c.requires.clause_rows, c.requires.load_rows)
 
 pub returns : goal.returns
 unfolding lent satisfaction_tests
 returns c =
     let given : Tables =
-        lent (length c.args.setting.now) c.args.rules.now c.args.literals.now c.args.clauses.now c.args.loads.now c.args.load_literals.now c.args.minutes.now c.args.marks.now in
+    lent (length c.args.setting.now) c.args.rules.now c.args.literals.now c.args.clauses.now c.args.loads.now c.args.load_literals.now c.args.minutes.now c.args.marks.now in
     let mark-is : let t = given in c.not_held_atom.result ≡ lowest t.atoms (not_held t.marks) =
-        rw c.requires.marks_long at c.not_held_atom.ensures in
+    rw c.requires.marks_long at c.not_held_atom.ensures in
     let marks_fit : first_fault (start_tests (given) c.args.setting.now) ≡ first_fault (setting_test (book_of (given)) c.args.setting.now ∷ []) =
-        marks_left (given) _ _ (mark-is) c.in_default.is in
+    marks_left (given) _ _ (mark-is) c.in_default.is in
     let setting-is : c.bad_setting.result ≡ lowest (book_of (given)).size (bad_setting (book_of (given)) c.args.setting.now) =
-        c.bad_setting.ensures ∙ setting_same (given) _ _ _ _ refl c.requires _ c.mark_defined.ensures in
+    c.bad_setting.ensures ∙ setting_same (given) _ _ _ _ refl c.requires _ c.mark_defined.ensures in
     let rounds-done : RoundsDone (book_of (given)) c.args.setting.now c.evaluate_stages-rounds.new.values c.evaluate_stages-rounds.new.levels c.evaluate_stages-rounds.new.work c.evaluate_stages-rounds.result =
-        c.evaluate_stages-rounds.ensures (book_of (given)) (stages_ready (given) _ _ _ _ refl c.requires _ c.mark_defined.ensures) in
+    c.evaluate_stages-rounds.ensures (book_of (given)) (stages_ready (given) _ _ _ _ refl c.requires _ c.mark_defined.ensures) in
     made_answer (given) _ _ _ _ (marks_fit) _ (setting-is) c.in_default-bad_setting.is _ _ _ _ _ refl (rounds-done)
     c.model_fault-verdict.ensures

@@ -11,10 +11,10 @@ loop-place-init c = (omega arith, c.requires, refl)
 
 pub loop-place-preserved : goal.loop-place-preserved
 loop-place-preserved c = let inv = c.loop-place.invariant in (
-      omega arith,
-      ⊎_elim (λ w. rw w.3 (omega (arith, w.0.taken, inv.2))) (λ w. rw w.2 inv.1) c.if-next-buffer.branch,
-      ⊎_elim (λ w. rw (w.2, length-set) inv.2) (λ w. rw w.1 inv.2) c.if-next-buffer.branch,
-    )
+  omega arith,
+  ⊎_elim (λ w. rw w.3 (omega (arith, w.0.taken, inv.2))) (λ w. rw w.2 inv.1) c.if-next-buffer.branch,
+  ⊎_elim (λ w. rw (w.2, length-set) inv.2) (λ w. rw w.1 inv.2) c.if-next-buffer.branch,
+)
 
 pub shape_of-buffer : goal.shape_of-buffer
 shape_of-buffer c = c.loop-place.invariant.2
