@@ -62,7 +62,7 @@ model_fault-verdict-requires c =
     lent (length c.args.setting.now) c.args.rules.now c.args.literals.now c.args.clauses.now c.args.loads.now c.args.load_literals.now c.args.minutes.now c.args.marks.now in
     let rounds-done : RoundsDone (book_of (given)) c.args.setting.now c.evaluate_stages-rounds.new.values c.evaluate_stages-rounds.new.levels c.evaluate_stages-rounds.new.work c.evaluate_stages-rounds.result =
     c.evaluate_stages-rounds.ensures (book_of (given)) (stages_ready (given) _ _ _ _ refl c.requires _ c.mark_defined.ensures) in
-    rw (done_long (rounds-done), book_size) (c.requires.clause_rows, c.requires.load_rows)
+    rw (done_long (rounds-done), book_size) (record { clauses_scannable = c.requires.clause_rows; loads_scannable = c.requires.load_rows })
 
 pub returns : goal.returns
 unfolding lent satisfaction_tests

@@ -4,14 +4,16 @@ use borrow.Author.Rules.{rules}
 use Rattle.tables.specs.Sound.{Tables, lent}
 use Rattle.indexed.specs.EvaluateIndexed.{IndexedSlices}
 use Rattle.indexed.proofs.IndexedLaws.{early_answer, followable, setting_answer, model_scannable, made_answer}
+use lib.ListN.{length}
+use Rattle.tables.specs.internal.Scans.{ClausesScannable, LoadsScannable}
 use Rattle.indexed.proofs.evaluate_indexed.Goals as goal
 
 pub returns-in-Refused : goal.returns-in-Refused
 returns-in-Refused c =
     let given : Tables =
-        lent c.args.atoms c.args.rules.now c.args.literals.now c.args.clauses.now c.args.loads.now c.args.load_literals.now c.args.minutes.now c.args.marks.now in
+    lent c.args.atoms c.args.rules.now c.args.literals.now c.args.clauses.now c.args.loads.now c.args.load_literals.now c.args.minutes.now c.args.marks.now in
     let slices : IndexedSlices =
-        record {
+    record {
       setting = c.args.open_values.now;
       values = c.args.values.now;
       levels = c.args.levels.now;
@@ -26,9 +28,9 @@ pub follow-followed-requires : goal.follow-followed-requires
 unfolding lent
 follow-followed-requires c =
     let given : Tables =
-        lent c.args.atoms c.args.rules.now c.args.literals.now c.args.clauses.now c.args.loads.now c.args.load_literals.now c.args.minutes.now c.args.marks.now in
+    lent c.args.atoms c.args.rules.now c.args.literals.now c.args.clauses.now c.args.loads.now c.args.load_literals.now c.args.minutes.now c.args.marks.now in
     let slices : IndexedSlices =
-        record {
+    record {
       setting = c.args.open_values.now;
       values = c.args.values.now;
       levels = c.args.levels.now;
@@ -43,9 +45,9 @@ pub returns-in-Refused-stopped : goal.returns-in-Refused-stopped
 unfolding lent
 returns-in-Refused-stopped c =
     let given : Tables =
-        lent c.args.atoms c.args.rules.now c.args.literals.now c.args.clauses.now c.args.loads.now c.args.load_literals.now c.args.minutes.now c.args.marks.now in
+    lent c.args.atoms c.args.rules.now c.args.literals.now c.args.clauses.now c.args.loads.now c.args.load_literals.now c.args.minutes.now c.args.marks.now in
     let slices : IndexedSlices =
-        record {
+    record {
       setting = c.args.open_values.now;
       values = c.args.values.now;
       levels = c.args.levels.now;
@@ -60,9 +62,9 @@ pub model_fault-verdict-requires : goal.model_fault-verdict-requires
 unfolding lent
 model_fault-verdict-requires c =
     let given : Tables =
-        lent c.args.atoms c.args.rules.now c.args.literals.now c.args.clauses.now c.args.loads.now c.args.load_literals.now c.args.minutes.now c.args.marks.now in
+    lent c.args.atoms c.args.rules.now c.args.literals.now c.args.clauses.now c.args.loads.now c.args.load_literals.now c.args.minutes.now c.args.marks.now in
     let slices : IndexedSlices =
-        record {
+    record {
       setting = c.args.open_values.now;
       values = c.args.values.now;
       levels = c.args.levels.now;
@@ -71,15 +73,18 @@ model_fault-verdict-requires c =
       entries = c.args.entries.now;
       counts = c.args.counts.now;
     } in
-    model_scannable (given) (slices) _ c.indexed_fault-verdict.ensures c.in_default.is _ _ _ _ _ _ _ _ c.follow-followed.ensures c.in_default-stopped.is
+    let both : ClausesScannable c.args.clauses.now c.args.literals.now (length c.follow-followed.new.values)
+    × LoadsScannable c.args.loads.now c.args.load_literals.now c.args.minutes.now (length c.follow-followed.new.values) =
+    model_scannable (given) (slices) _ c.indexed_fault-verdict.ensures c.in_default.is _ _ _ _ _ _ _ _ c.follow-followed.ensures c.in_default-stopped.is in
+    record { clauses_scannable = both.0; loads_scannable = both.1 }
 
 pub returns : goal.returns
 unfolding lent
 returns c =
     let given : Tables =
-        lent c.args.atoms c.args.rules.now c.args.literals.now c.args.clauses.now c.args.loads.now c.args.load_literals.now c.args.minutes.now c.args.marks.now in
+    lent c.args.atoms c.args.rules.now c.args.literals.now c.args.clauses.now c.args.loads.now c.args.load_literals.now c.args.minutes.now c.args.marks.now in
     let slices : IndexedSlices =
-        record {
+    record {
       setting = c.args.open_values.now;
       values = c.args.values.now;
       levels = c.args.levels.now;
