@@ -1,5 +1,4 @@
 -- `printing::put` meets its contract: the bytes before the present one are stored.
-use Prim.Native.Nat.{◌-◌}
 use mathlib.Core.Path.{refl}
 use native.Mathlib.Omega.{arith}
 use Rattle.printing.proofs.PutLaws.{storing_start, storing_length, storing_turn, storing_end}

@@ -1,5 +1,4 @@
 -- `checker::blocking::blocking_fault` meets its contract: no group passed has a row without a blocking literal.
-use Prim.Native.Nat.{◌-◌}
 use mathlib.Core.Path.{◌∙◌}
 use native.Mathlib.Omega.{arith}
 use lib.ListN.{length}

@@ -1,5 +1,4 @@
 -- `checker::blocking::unblocked_row` meets its contract: below `next` no row is unblocked, and before `i` no literal of the row's body blocks.
-use Prim.Native.Nat.{◌-◌}
 use mathlib.Core.Path.{refl, ◌∙◌}
 use native.Mathlib.Omega.{arith}
 use Rattle.tables.proofs.Faults.{search_start, search_end}
@@ -29,9 +28,9 @@ literal_blocks-requires c = row_reached c.loop-i.invariant c.loop-i-test.true
 
 pub rows-preserved : goal.rows-preserved
 rows-preserved c = let scan = c.loop-i.invariant in (
-      row_stop scan c.loop-i-test.true c.literal_blocks.ensures c.if-literal_blocks.true,
-      c.rows.invariant.1,
-    )
+  row_stop scan c.loop-i-test.true c.literal_blocks.ensures c.if-literal_blocks.true,
+  c.rows.invariant.1,
+)
 
 pub loop-i-preserved : goal.loop-i-preserved
 loop-i-preserved c = let scan = c.loop-i.invariant in

@@ -1,7 +1,6 @@
 -- `checker::blocking::unblocked_row` meets its contract: below `next` no row is unblocked, and before `i` no literal of the row's body blocks.
 use Prim.Native.Nat.{◌-◌}
 use mathlib.Core.Path.{◌≡◌}
-use borrow.Author.Rules.{rules}
 use Rattle.tables.specs.declared.Found.TheVariants.{Nothing}
 use Rattle.checker.proofs.RowReads.{SearchedRows, RowScan}
 use Rattle.checker.proofs.blocking.unblocked_row.Given as goal

@@ -1,7 +1,5 @@
 -- `checker::levels::bad_group_level` meets its contract: the marks tell who is defined in the group, and their number is D.
 use mathlib.Core.Path.{sym, ◌∙◌}
-use native.Mathlib.Omega.{arith}
-use borrow.Author.Rules.{rules}
 use Rattle.tables.specs.Limits.{max_atoms}
 use Rattle.tables.specs.Rows.{definition_of}
 use Rattle.tables.proofs.MarkLaws.{fresh_unmarked}
@@ -9,9 +7,8 @@ use Rattle.checker.proofs.LevelReads.{levels_search}
 use Rattle.checker.proofs.DefinedMarks.{defined_readable, defined_count_lem}
 use Rattle.checker.proofs.levels.bad_group_level.Goals as goal
 
-pub mark_defined-requires : goal.mark_defined-requires
-mark_defined-requires c = let pre = c.requires.0 in
-    (λ row l. omega (arith, pre.few, pre.heads row l), (omega (arith, pre.few), fresh_unmarked max_atoms))
+pub mark_defined-requires-clause-unmarked : goal.mark_defined-requires-clause-unmarked
+mark_defined-requires-clause-unmarked c = fresh_unmarked max_atoms
 
 pub returns : goal.returns
 unfolding definition_of

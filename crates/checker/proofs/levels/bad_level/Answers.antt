@@ -1,5 +1,4 @@
 -- `checker::levels::bad_level` meets its contract: below `atom` no level is out of range.
-use Prim.Native.Nat.{◌-◌}
 use native.Mathlib.Omega.{arith}
 use Rattle.tables.proofs.Faults.{search_start, search_turn, search_stop, search_end}
 use Rattle.checker.proofs.levels.bad_level.Goals as goal

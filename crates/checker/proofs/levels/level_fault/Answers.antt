@@ -1,5 +1,4 @@
 -- `checker::levels::level_fault` meets its contract: no group passed has a level out of range.
-use Prim.Native.Nat.{◌-◌}
 use native.Mathlib.Omega.{arith}
 use lib.ListN.{length}
 use Rattle.tables.proofs.Faults.{turned_start, turned_turn, turned_stop, turned_end}

@@ -2,7 +2,6 @@
 use Prim.Native.Nat.{ℕ, ◌-◌, ◌≤◌}
 use mathlib.Core.List.{List}
 use lib.ListN.{length}
-use borrow.Author.Rules.{rules}
 use Rattle.tables.specs.Rows.{definition_of}
 use Rattle.tables.specs.Sound.{group_levels}
 use Rattle.tables.proofs.Faults.{Turned}

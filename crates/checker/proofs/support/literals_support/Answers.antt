@@ -1,5 +1,4 @@
 -- `checker::support::literals_support` meets its contract: the literals from `i` on all support the atom where the whole body does.
-use Prim.Native.Nat.{◌-◌}
 use mathlib.Core.Path.{sym, ◌∙◌}
 use native.Mathlib.Omega.{arith}
 use Rattle.wellfounded.proofs.Scan.{scan_start, scan_turn, scan_stop, scan_end}

@@ -27,9 +27,9 @@ bounds-levels-head c = let within = row_head c.requires.1.rows c.requires.0 c.ru
 
 pub body_supports-requires : goal.body_supports-requires
 body_supports-requires c = (
-      row_body c.requires.1.rows c.requires.0 c.rule_start-start.ensures.is c.rule_size-size.ensures.is,
-      c.requires.1.long,
-    )
+  row_body c.requires.1.rows c.requires.0 c.rule_start-start.ensures.is c.rule_size-size.ensures.is,
+  c.requires.1.long,
+)
 
 pub returns : goal.returns
 unfolding in_group level_at rule_body supports_row

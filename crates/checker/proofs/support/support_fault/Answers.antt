@@ -1,5 +1,4 @@
 -- `checker::support::support_fault` meets its contract: no group passed has a true atom without support.
-use Prim.Native.Nat.{◌-◌}
 use native.Mathlib.Omega.{arith}
 use lib.ListN.{length}
 use Rattle.tables.proofs.Faults.{turned_start, turned_turn, turned_stop, turned_end}

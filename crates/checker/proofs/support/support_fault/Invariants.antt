@@ -1,7 +1,6 @@
 -- `checker::support::support_fault` meets its contract: no group passed has a true atom without support.
 use Prim.Native.Nat.{ℕ, ◌-◌, ◌≤◌}
 use lib.ListN.{length}
-use borrow.Author.Rules.{rules}
 use Rattle.wellfounded.specs.Definitions.{Definition}
 use Rattle.tables.specs.Sound.{group_levels}
 use Rattle.tables.proofs.Faults.{Turned}
