@@ -1,5 +1,4 @@
 -- `lists::read_columns` meets its contract: the columns of the groups so far stand one behind the other.
-use Prim.Native.Nat.{◌-◌}
 use native.Mathlib.Omega.{arith}
 use Rattle.lists.proofs.PairLaws.{columns_start, columns_turn, columns_end}
 use Rattle.lists.proofs.read_columns.Goals as goal

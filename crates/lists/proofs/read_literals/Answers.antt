@@ -1,5 +1,5 @@
 -- `lists::read_literals` meets its contract: the literals read so far are counted, tested and stored.
-use Prim.Native.Nat.{ℕ, ◌+◌, ◌-◌, ◌*◌}
+use Prim.Native.Nat.{ℕ, ◌+◌, ◌*◌}
 use mathlib.Core.Path.{◌≡◌, refl, sym, ap, subst, ◌∙◌}
 use mathlib.Core.Bool.{Bool, true, ◌&&◌}
 use mathlib.Core.List.{[], ◌∷◌}
@@ -24,7 +24,7 @@ loop-next-init c = (refl, listing_start c.requires.inside.reached refl refl)
 pub overflow_add-next : goal.overflow_add-next
 overflow_add-next c =
     let spaced : word_at c.args.text.now c.loop-next.next (space ∷ []) ≡ true =
-        sym c.byte_at.ensures ∙ c.loop-next-test.true in
+    sym c.byte_at.ensures ∙ c.loop-next-test.true in
     let l = (byte_got _ _ _ (spaced)).1 in search rules
 
 pub shape_of-literals-in_default : goal.shape_of-literals-in_default
@@ -34,7 +34,7 @@ pub returns-in_default : goal.returns-in_default
 unfolding LaidLiterals
 returns-in_default c =
     let spaced : word_at c.args.text.now c.loop-next.next (space ∷ []) ≡ true =
-        sym c.byte_at.ensures ∙ c.loop-next-test.true in
+    sym c.byte_at.ensures ∙ c.loop-next-test.true in
     listing_refused literal_bytes read_literal literal_inverse c.loop-next.invariant.1 (spaced)
     (literal_none _ _ (sym c.read_literal.ensures ∙ c.in_default.is))
 
@@ -47,17 +47,17 @@ overflow_add-count c = let inv = c.loop-next.invariant.1 in omega (arith, c.requ
 pub loop-next-smaller : goal.loop-next-smaller
 loop-next-smaller c =
     let spaced : word_at c.args.text.now c.loop-next.next (space ∷ []) ≡ true =
-        sym c.byte_at.ensures ∙ c.loop-next-test.true in
+    sym c.byte_at.ensures ∙ c.loop-next-test.true in
     let read : (l : LiteralText) × (c.in-Coded.literal ≡ capped_code l) × GotAt read_literal c.args.text.now (c.loop-next.next + 1) c.in-Coded.after l =
-        literal_got (omega (arith, (byte_got _ _ _ (spaced)).1)) (sym c.read_literal.ensures ∙ c.in-Coded.is) in
+    literal_got (omega (arith, (byte_got _ _ _ (spaced)).1)) (sym c.read_literal.ensures ∙ c.in-Coded.is) in
     let got = read in omega (arith, got.2.on, got.2.inside)
 
 pub loop-next-preserved : goal.loop-next-preserved
 loop-next-preserved c =
     let spaced : word_at c.args.text.now c.loop-next.next (space ∷ []) ≡ true =
-        sym c.byte_at.ensures ∙ c.loop-next-test.true in
+    sym c.byte_at.ensures ∙ c.loop-next-test.true in
     let read : (l : LiteralText) × (c.in-Coded.literal ≡ capped_code l) × GotAt read_literal c.args.text.now (c.loop-next.next + 1) c.in-Coded.after l =
-        literal_got (omega (arith, (byte_got _ _ _ (spaced)).1)) (sym c.read_literal.ensures ∙ c.in-Coded.is) in
+    literal_got (omega (arith, (byte_got _ _ _ (spaced)).1)) (sym c.read_literal.ensures ∙ c.in-Coded.is) in
     let got = read in
     let inv = c.loop-next.invariant in
     let kept : c.store.new.table ≡ stored (ltb (capped_code got.0) 65536) c.loop-next.literals (c.args.from + c.loop-next.count) (capped_code got.0) =
@@ -78,7 +78,7 @@ returns-then-not-byte_at c = listing_unclosed literal_bytes read_literal literal
 pub overflow_add-result : goal.overflow_add-result
 overflow_add-result c =
     let closed : word_at c.args.text.now c.loop-next.next (closing ∷ []) ≡ true =
-        sym c.byte_at-2.ensures ∙ c.if-not-byte_at.false in
+    sym c.byte_at-2.ensures ∙ c.if-not-byte_at.false in
     let l = (byte_got _ _ closing (closed)).1 in search rules
 
 pub shape_of-literals : goal.shape_of-literals
@@ -88,5 +88,5 @@ pub returns : goal.returns
 unfolding LaidLiterals
 returns c =
     let closed : word_at c.args.text.now c.loop-next.next (closing ∷ []) ≡ true =
-        sym c.byte_at-2.ensures ∙ c.if-not-byte_at.false in
+    sym c.byte_at-2.ensures ∙ c.if-not-byte_at.false in
     listing_end literal_bytes read_literal literal_inverse c.loop-next.invariant.1 (closed)

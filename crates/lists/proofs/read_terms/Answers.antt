@@ -24,7 +24,7 @@ byte_at-requires c = tt
 pub overflow_add-next : goal.overflow_add-next
 overflow_add-next c =
     let spaced : word_at c.args.text.now c.loop-next.next (32 ∷ []) ≡ true =
-        sym c.byte_at.ensures ∙ c.loop-next-test.true in
+    sym c.byte_at.ensures ∙ c.loop-next-test.true in
     let l = (byte_got _ _ _ (spaced)).1 in omega (arith, c.requires.inside.short)
 
 pub read_term-requires : goal.read_term-requires
@@ -39,7 +39,7 @@ shape_of-minutes-in_default c = c.loop-next.invariant.same_minutes
 pub returns-in_default : goal.returns-in_default
 returns-in_default c =
     let spaced : word_at c.args.text.now c.loop-next.next (32 ∷ []) ≡ true =
-        sym c.byte_at.ensures ∙ c.loop-next-test.true in
+    sym c.byte_at.ensures ∙ c.loop-next-test.true in
     listing_refused term_bytes read_term term_inverse c.loop-next.invariant.listing (spaced)
     (term_none _ _ (sym c.read_term.ensures ∙ c.in_default.is))
 
@@ -64,17 +64,17 @@ overflow_add-count c = omega (arith, terms_count c.loop-next.invariant, c.requir
 pub loop-next-smaller : goal.loop-next-smaller
 loop-next-smaller c =
     let spaced : word_at c.args.text.now c.loop-next.next (32 ∷ []) ≡ true =
-        sym c.byte_at.ensures ∙ c.loop-next-test.true in
+    sym c.byte_at.ensures ∙ c.loop-next-test.true in
     let read : term_read_at c.args.text.now (c.loop-next.next + 1) ≡ Weighed c.in-Weighed.worked c.in-Weighed.literal c.in-Weighed.after =
-        sym c.read_term.ensures ∙ c.in-Weighed.is in
+    sym c.read_term.ensures ∙ c.in-Weighed.is in
     terms_on c.loop-next.invariant (spaced) (read)
 
 pub loop-next-preserved : goal.loop-next-preserved
 loop-next-preserved c =
     let spaced : word_at c.args.text.now c.loop-next.next (32 ∷ []) ≡ true =
-        sym c.byte_at.ensures ∙ c.loop-next-test.true in
+    sym c.byte_at.ensures ∙ c.loop-next-test.true in
     let read : term_read_at c.args.text.now (c.loop-next.next + 1) ≡ Weighed c.in-Weighed.worked c.in-Weighed.literal c.in-Weighed.after =
-        sym c.read_term.ensures ∙ c.in-Weighed.is in
+    sym c.read_term.ensures ∙ c.in-Weighed.is in
     terms_turn c.loop-next.invariant (spaced) (read) c.store.ensures c.store.auto.table
     c.store_minutes.ensures c.store_minutes.auto.table c.minutes_within.ensures
 

@@ -1,5 +1,5 @@
 -- `lists::read_values` meets its contract: the pairs read so far are tested and stored, and the rest are read where the loop has come to.
-use Prim.Native.Nat.{◌+◌, ◌-◌}
+use Prim.Native.Nat.{◌+◌}
 use mathlib.Core.Path.{◌≡◌, sym, ◌∙◌}
 use mathlib.Core.Bool.{true}
 use mathlib.Core.List.{[], ◌∷◌}
@@ -24,7 +24,7 @@ byte_at-requires c = tt
 pub overflow_add-next : goal.overflow_add-next
 overflow_add-next c =
     let spaced : word_at c.args.text.now c.loop-next.next (32 ∷ []) ≡ true =
-        sym c.byte_at.ensures ∙ c.loop-next-test.true in
+    sym c.byte_at.ensures ∙ c.loop-next-test.true in
     let l = (byte_got _ _ _ (spaced)).1 in omega (arith, c.requires.short)
 
 pub read_pair-requires : goal.read_pair-requires
@@ -39,7 +39,7 @@ shape_of-levels-in_default c = c.loop-next.invariant.same_levels
 pub returns-in_default : goal.returns-in_default
 returns-in_default c =
     let spaced : word_at c.args.text.now c.loop-next.next (32 ∷ []) ≡ true =
-        sym c.byte_at.ensures ∙ c.loop-next-test.true in
+    sym c.byte_at.ensures ∙ c.loop-next-test.true in
     listing_refused pair_bytes read_pair pair_inverse c.loop-next.invariant.listing (spaced)
     (pair_none _ _ _ (sym c.read_pair.ensures ∙ c.in_default.is))
 
@@ -55,17 +55,17 @@ overflow_add-count c = omega (arith, values_count c.loop-next.invariant, c.requi
 pub loop-next-smaller : goal.loop-next-smaller
 loop-next-smaller c =
     let spaced : word_at c.args.text.now c.loop-next.next (32 ∷ []) ≡ true =
-        sym c.byte_at.ensures ∙ c.loop-next-test.true in
+    sym c.byte_at.ensures ∙ c.loop-next-test.true in
     let read : pair_at c.args.text.now (c.loop-next.next + 1) 0 ≡ Paired c.in-Paired.value c.in-Paired.level c.in-Paired.told c.in-Paired.low c.in-Paired.after =
-        sym c.read_pair.ensures ∙ c.in-Paired.is in
+    sym c.read_pair.ensures ∙ c.in-Paired.is in
     pairs_on _ _ _ (spaced) (read)
 
 pub loop-next-preserved : goal.loop-next-preserved
 loop-next-preserved c =
     let spaced : word_at c.args.text.now c.loop-next.next (32 ∷ []) ≡ true =
-        sym c.byte_at.ensures ∙ c.loop-next-test.true in
+    sym c.byte_at.ensures ∙ c.loop-next-test.true in
     let read : pair_at c.args.text.now (c.loop-next.next + 1) 0 ≡ Paired c.in-Paired.value c.in-Paired.level c.in-Paired.told c.in-Paired.low c.in-Paired.after =
-        sym c.read_pair.ensures ∙ c.in-Paired.is in
+    sym c.read_pair.ensures ∙ c.in-Paired.is in
     values_turn c.loop-next.invariant (spaced) (read) c.store_value.ensures c.store_value.auto.values c.store.ensures c.store.auto.table
 
 pub byte_at-requires-2 : goal.byte_at-requires-2

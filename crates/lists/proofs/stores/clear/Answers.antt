@@ -1,5 +1,4 @@
 -- `lists::stores::clear` meets its contract: with the entries from the place reached on put to 0, those wanted are there.
-use Prim.Native.Nat.{◌-◌}
 use native.Mathlib.Omega.{arith}
 use Rattle.lists.proofs.StoreLaws.{cleared_start, cleared_turn, cleared_end, cleared_length}
 use Rattle.lists.proofs.stores.clear.Goals as goal

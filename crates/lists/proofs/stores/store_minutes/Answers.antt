@@ -10,7 +10,8 @@ overflow_cast-table c = let f = c.ranges.minutes in
 
 pub returns-then-minutes_within : goal.returns-then-minutes_within
 returns-then-minutes_within c = let f = c.ranges.minutes in
-    rw (to_z-of_z (cast-table c), to_z-of_z f) (stored_small _ _ _ (sym (rw (to_z-of_z f) at c.minutes_within.ensures) ∙ c.if-minutes_within.true))
+    let test = rw (to_z-of_z f) at c.minutes_within.ensures in
+    rw (to_z-of_z f, to_z-of_z (minutes_small _ test c.if-minutes_within.true)) (stored_small _ _ _ (sym test ∙ c.if-minutes_within.true))
 
 pub returns-else-minutes_within : goal.returns-else-minutes_within
 returns-else-minutes_within c = let f = c.ranges.minutes in
