@@ -46,14 +46,14 @@ pub evaluate_book-requires : goal.evaluate_book-requires
 unfolding lent_tables
 evaluate_book-requires c =
     let tables : Contents =
-        lent_tables c.args.rules.now c.args.literals.now c.args.clauses.now c.args.loads.now c.args.load_literals.now
+    lent_tables c.args.rules.now c.args.literals.now c.args.clauses.now c.args.loads.now c.args.load_literals.now
     c.args.minutes.now c.args.marks.now c.args.given.now c.args.given_levels.now in
     record { fits_arrays = parts_fit c.args.book (tables) c.requires.fits_book; hold_every_atom = c.requires.hold_every_atom }
 
 pub returns-in-NoState : goal.returns-in-NoState
 returns-in-NoState c =
     let tables : Contents =
-        lent_tables c.args.rules.now c.args.literals.now c.args.clauses.now c.args.loads.now c.args.load_literals.now
+    lent_tables c.args.rules.now c.args.literals.now c.args.clauses.now c.args.loads.now c.args.load_literals.now
     c.args.minutes.now c.args.marks.now c.args.given.now c.args.given_levels.now in
     refused_comes c.args.book (tables) c.in-NoState.is c.verdict_alone.ensures
 
@@ -67,7 +67,7 @@ pub returns-in-OpenState : goal.returns-in-OpenState
 unfolding lent_tables
 returns-in-OpenState c =
     let tables : Contents =
-        lent_tables c.args.rules.now c.args.literals.now c.args.clauses.now c.args.loads.now c.args.load_literals.now
+    lent_tables c.args.rules.now c.args.literals.now c.args.clauses.now c.args.loads.now c.args.load_literals.now
     c.args.minutes.now c.args.marks.now c.args.given.now c.args.given_levels.now in
     open_comes c.args.book (tables) c.requires.fits_book c.in-OpenState.is c.evaluate_book.ensures
 
@@ -75,6 +75,6 @@ pub returns-in-ClaimState : goal.returns-in-ClaimState
 unfolding lent_tables
 returns-in-ClaimState c =
     let tables : Contents =
-        lent_tables c.args.rules.now c.args.literals.now c.args.clauses.now c.args.loads.now c.args.load_literals.now
+    lent_tables c.args.rules.now c.args.literals.now c.args.clauses.now c.args.loads.now c.args.load_literals.now
     c.args.minutes.now c.args.marks.now c.args.given.now c.args.given_levels.now in
     claim_comes c.args.book (tables) c.in-ClaimState.is _ c.check.ensures c.verdict_alone-in-ClaimState.ensures
