@@ -1,4 +1,6 @@
 // The reader of book texts.
+#![tactic(auto)]
+
 ghost use Rattle.std.specs.Prelude.{◌≡◌};
 ghost use Rattle.judging.specs.declared.reached.Judged.TheVariants.{Failed};
 ghost use Rattle.forms.specs.Contents.{lent_tables};

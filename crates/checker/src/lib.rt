@@ -1,4 +1,6 @@
 // The check of a claim on lent tables.
+#![tactic(auto)]
+
 ghost use Rattle.std.specs.Prelude.{◌≡◌, ◌∷◌, length};
 ghost use Rattle.tables.specs.Faults.{first_fault};
 ghost use Rattle.tables.specs.Rows.{group_count, definition_of};

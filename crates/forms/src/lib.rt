@@ -1,4 +1,6 @@
 // The forms of a text, each read from after its word on. What a form adds to the tables is stored as it is read.
+#![tactic(auto)]
+
 ghost use Rattle.std.specs.Prelude.{◌≡◌, true, ◌≤◌, map, leb, ltb, nat_abs, drop, replicate};
 ghost use Rattle.std.proofs.lemmas.List.Edits.{sets};
 ghost use Rattle.format.specs.Forms.{TermText};

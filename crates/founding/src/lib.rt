@@ -1,4 +1,6 @@
 // Founded atoms: those that are in no unfounded set.
+#![tactic(auto)]
+
 ghost use Rattle.std.specs.Prelude.{◌≡◌, not, cond, ◌||◌, ◌+◌, ◌≤◌, ◌<◌, length};
 ghost use Rattle.wellfounded.specs.Lists.{all};
 ghost use Rattle.wellfounded.specs.Literals.{atom_of, is_true, value_at, body_at};

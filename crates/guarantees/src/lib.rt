@@ -1,4 +1,6 @@
 // The two calls together: a claim is made, and the check looks at it with the same tables.
+#![tactic(auto)]
+
 ghost use Rattle.tables.specs.Sound.{lent};
 ghost use Rattle.guarantees.specs.Settings.{MadeAndChecked};
 

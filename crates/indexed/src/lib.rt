@@ -1,4 +1,6 @@
 // The maker that follows the index.
+#![tactic(auto)]
+
 ghost use Rattle.std.specs.Prelude.{◌≡◌};
 ghost use Rattle.wellfounded.specs.Lists.{all};
 ghost use Rattle.tables.specs.Faults.{first_fault};

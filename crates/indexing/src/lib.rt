@@ -1,4 +1,6 @@
 // Where a literal occurs: an index from each literal to the rules that hold it.
+#![tactic(auto)]
+
 ghost use Rattle.std.specs.Prelude.{◌≡◌, ◌≤◌, length};
 ghost use Rattle.tables.specs.Limits.{max_atoms};
 ghost use Rattle.tables.specs.Sound.{lent};

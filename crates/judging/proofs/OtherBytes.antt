@@ -1,7 +1,7 @@
 -- Bytes that are no digit, no letter and none of the five that stand for themselves are malformed: no form's line holds one, no line that holds
 -- one parses, and where such a line comes after lines that pass, the text is refused for it with 1.
 -- Assumes nothing.
-use Prim.Native.Nat.{ℕ, ◌+◌, ◌≤◌}
+use Prim.Native.Nat.{ℕ, ◌≤◌}
 use mathlib.Core.Path.{◌≡◌, refl, ap}
 use mathlib.Core.Bool.{Bool, true, false, cond, ◌&&◌, ◌||◌, false≢true}
 use mathlib.Core.List.{List, [], ◌∷◌, ◌++◌, Memᴰ}

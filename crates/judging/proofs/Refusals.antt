@@ -8,7 +8,7 @@ use native.Mathlib.Omega.{arith}
 use lib.Dec.{leb}
 use lib.ListN.{length}
 use borrow.Author.Tests.{leb-true, leb-false, le-leb, lt-leb}
-use Rattle.wellfounded.proofs.Tests.{first, second, clash}
+use Rattle.wellfounded.proofs.Tests.{clash}
 use Rattle.tables.specs.Limits.{max_atoms}
 use Rattle.tables.specs.declared.Fault.{Fault}
 use Rattle.tables.specs.Faults.{fault_number}
@@ -22,7 +22,7 @@ use Rattle.judging.specs.declared.reached.Judged.TheVariants.{Failed}
 use Rattle.judging.specs.LentTables.{Table, Levels, full_size}
 use Rattle.judging.specs.States.{open_stood, start, after, counts_within, groups_reached, fits, count_in}
 use Rattle.judging.specs.Judging.{within_limits, in_order, on, stop, judge_form, levelled, if_levelled, lines, continued, judge_lines, judge_text, max_bytes}
-use Rattle.judging.specs.Books.{after_all, passes, all_pass, PassesUpTo, NoRoom, FullSpace}
+use Rattle.judging.specs.Books.{after_all, PassesUpTo, NoRoom, FullSpace}
 use Rattle.judging.specs.Books.{FirstRefused, too_long, no_form, not_passing, no_state}
 use Rattle.judging.proofs.LineLaws.{levelled_got, line_formed, judge_line_lem, judge_refused}
 use Rattle.judging.proofs.Walking.{after_more, judge_passed, WalkEnd, accepted, refused_at, walked}

@@ -1,2 +1,4 @@
 // How a text is judged, line by line.
+#![tactic(auto)]
+
 pub mod reached;

@@ -1,4 +1,6 @@
 // The walk over the lines of a text. Lent tables with no entries it judges; lent the host's tables it fills them.
+#![tactic(auto)]
+
 ghost use Rattle.std.specs.Prelude.{◌≡◌};
 ghost use Rattle.judging.specs.Judging.{judge_text};
 ghost use Rattle.forms.specs.Contents.{lent_tables};

@@ -1,4 +1,6 @@
 // The parts that forms list, each after one space, up to the closing bracket. Parts are stored as they are read.
+#![tactic(auto)]
+
 ghost use Rattle.std.specs.Prelude.{◌≡◌, true, ℕ, ◌*◌, ◌≤◌, List, map, ltb, length, drop};
 ghost use Rattle.std.proofs.lemmas.List.Edits.{sets};
 ghost use Rattle.wellfounded.specs.Lists.{all};

@@ -1,4 +1,6 @@
 // What a text comes to: it is read into tables of full size, and then its claim is checked or its open form evaluated.
+#![tactic(auto)]
+
 ghost use Rattle.std.specs.Prelude.{◌≡◌, length};
 ghost use Rattle.tables.specs.Sound.{lent};
 ghost use Rattle.forms.specs.Contents.{lent_tables};

@@ -1,4 +1,6 @@
 // The printed page, written into a buffer. Each function puts its bytes at an offset and answers the offset after them.
+#![tactic(auto)]
+
 ghost use Rattle.std.specs.Prelude.{◌+◌, ◌≤◌, ◌∷◌, length};
 ghost use Rattle.format.specs.Forms.{space, decimal};
 ghost use Rattle.tables.specs.Limits.{max_atoms, max_position};

@@ -4,8 +4,7 @@ use Prim.Native.Nat.{ℕ, suc, ◌+◌, ◌/◌, ◌%◌, ◌≤◌, ◌<◌}
 use mathlib.Core.Path.{◌≡◌, ap, ◌∙◌}
 use mathlib.Core.List.{List, [], ◌∷◌, ◌++◌}
 use native.Mathlib.Omega.{arith}
-use lib.ListN.{length, set}
-use lib.Seq.{sets}
+use lib.ListN.{set}
 use Rattle.format.specs.Forms.{decimal}
 use Rattle.format.proofs.Decimals.{decimal_digit}
 use Rattle.printing.specs.internal.Putting.{Puts}

@@ -1,4 +1,6 @@
 // Bytes and numbers, put into a buffer that has room for them. Each function puts its bytes at an offset and answers the offset after them.
+#![tactic(auto)]
+
 ghost use Rattle.std.specs.Prelude.{◌≡◌, ◌+◌, ◌≤◌, ◌<◌, nat_abs, length};
 ghost use Rattle.format.specs.Forms.{decimal, signed};
 ghost use Rattle.printing.specs.internal.Putting.{Puts, max_printed};

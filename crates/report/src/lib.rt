@@ -1,4 +1,6 @@
 // The report of a text: what it comes to, as a page in a lent buffer.
+#![tactic(auto)]
+
 ghost use Rattle.std.specs.Prelude.{◌≡◌};
 ghost use Rattle.report.specs.Reports.{is_open_state, Reported};
 

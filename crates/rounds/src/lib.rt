@@ -1,4 +1,6 @@
 // Rounds until nothing changes: from a setting to its faults, or to the well-founded model with its stages.
+#![tactic(auto)]
+
 mod rounds;
 mod setting;
 mod stages;

@@ -1,4 +1,6 @@
 // Both round trips are theorems about the contracts of the reader and the writer. Here the first is made: a book is written and read back.
+#![tactic(auto)]
+
 ghost use Rattle.tables.specs.Sound.{lent};
 ghost use Rattle.forms.specs.Contents.{lent_tables};
 ghost use Rattle.roundtrips.specs.RoundTrips.{Rewrites};

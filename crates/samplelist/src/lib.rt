@@ -1,4 +1,6 @@
 // P1 to P10 of the paper, as the list of specs/Samples.antt has them: their texts, and the pages of the real calls on them.
+#![tactic(auto)]
+
 ghost use Rattle.std.specs.Prelude.{◌≤◌, ◌<◌, ◌≡◌, ◌++◌, length, take};
 ghost use Rattle.page.specs.Pages.{page_size};
 ghost use Rattle.printing.specs.internal.Putting.{Puts};

@@ -1,5 +1,5 @@
 -- Clauses and load lines that hold, and the faults 26 and 27.
-use Rattle.std.specs.Prelude.{ℕ, ◌+◌, ◌≤◌, ◌≡◌, Bool, true, not, cond, ◌&&◌, ℤ, pos, ◌+ℤ◌, ◌≤ℤ◌}
+use Rattle.std.specs.Prelude.{ℕ, ◌≡◌, Bool, true, not, cond, ◌&&◌, ℤ, pos, ◌+ℤ◌, ◌≤ℤ◌}
 use mathlib.Core.List.{List, [], ◌∷◌, Memᴰ}
 use Rattle.std.specs.Int.Signed.{le_z}
 use Rattle.wellfounded.specs.Lists.{any}

@@ -1,4 +1,6 @@
 // Clauses and load lines in lent values: the faults 26 and 27.
+#![tactic(auto)]
+
 ghost use Rattle.std.specs.Prelude.{◌≡◌, [], ◌∷◌, length};
 ghost use Rattle.tables.specs.Faults.{first_fault};
 ghost use Rattle.tables.specs.internal.Scans.{ClausesScannable, LoadsScannable};

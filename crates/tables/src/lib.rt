@@ -1,4 +1,6 @@
 // The tables of a book: verdicts, and the faults of tables that a host lends.
+#![tactic(auto)]
+
 ghost use Rattle.std.specs.Prelude.{◌≡◌};
 ghost use Rattle.tables.specs.Faults.{fault_number, number_of, position_of};
 

@@ -1,4 +1,6 @@
 // Literals and bodies in lent values: the leaf functions that checking and evaluating share.
+#![tactic(auto)]
+
 ghost use Rattle.std.specs.Prelude.{◌≡◌, ◌<◌, length};
 ghost use Rattle.wellfounded.specs.Literals.{atom_of, is_negated, literal_true, literal_false, body_true, body_at};
 ghost use Rattle.wellfounded.specs.internal.Scans.{Scannable};

@@ -1,4 +1,6 @@
 // The writer of book texts.
+#![tactic(auto)]
+
 ghost use Rattle.std.specs.Prelude.{◌≡◌, [], ◌∷◌, length};
 ghost use Rattle.tables.specs.declared.Verdict.TheVariants.{Refused};
 ghost use Rattle.tables.specs.Faults.{first_fault};

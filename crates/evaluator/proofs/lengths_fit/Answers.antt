@@ -1,0 +1,9 @@
+-- `evaluator::lengths_fit` meets its contract: the tests stand in the list's order.
+use mathlib.Core.Bool.{and-true}
+use Rattle.wellfounded.specs.Lists.{all}
+use Rattle.tables.specs.Sound.{is_sized}
+use Rattle.evaluator.proofs.lengths_fit.Goals as goal
+
+pub returns : goal.returns
+unfolding all is_sized
+returns c = simp and-true

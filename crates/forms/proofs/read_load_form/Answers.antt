@@ -1,0 +1,102 @@
+-- `forms::read_load_form` meets its contract: the two bounds, each after a space, and the terms, then the row.
+use Prim.Native.Nat.{◌+◌}
+use mathlib.Core.Path.{◌≡◌, sym, ap, ◌∙◌}
+use mathlib.Core.Bool.{true}
+use mathlib.Core.List.{[], ◌∷◌}
+use native.Mathlib.Omega.{arith}
+use lib.Dec.{leb}
+use lib.IntN.{ℤ, nat_abs}
+use borrow.Author.Rules.{rules}
+use Rattle.tables.specs.Limits.{max_bound}
+use Rattle.numerals.specs.declared.signed.Signed.TheVariants.{Whole}
+use Rattle.format.specs.Forms.{term_bytes}
+use Rattle.format.specs.Words.{word_at}
+use Rattle.format.specs.Parse.{read_term}
+use Rattle.numerals.specs.internal.Offsets.{signed_at}
+use Rattle.format.proofs.Pieces.{term_inverse}
+use Rattle.items.proofs.ItemLaws.{byte_got}
+use Rattle.judging.proofs.Counts.{counts_within_lem}
+use Rattle.format.specs.Views.{view_of, of_kind, same_kind, kind_number}
+use Rattle.forms.specs.Entries.{load_row, terms_in}
+use Rattle.forms.proofs.Gathered.{count_small}
+use Rattle.forms.proofs.FormLaws.{signed_after, signed_kept}
+use Rattle.forms.proofs.LoadForm.{load_unspaced, load_lowless, load_one_bound, load_highless, load_listless, load_formed}
+use Rattle.forms.proofs.read_load_form.Goals as goal
+
+pub returns-then-not-byte_at : goal.returns-then-not-byte_at
+returns-then-not-byte_at c = load_unspaced _ _ (sym c.byte_at.ensures ∙ c.if-not-byte_at.true)
+
+pub returns-in_default : goal.returns-in_default
+returns-in_default c =
+    let spaced : word_at c.args.text.now c.args.at (32 ∷ []) ≡ true =
+        sym c.byte_at.ensures ∙ c.if-not-byte_at.false in
+    load_lowless _ _ (spaced) (sym c.read_signed.ensures ∙ c.in_default.is)
+
+pub returns-then-not-byte_at-2 : goal.returns-then-not-byte_at-2
+returns-then-not-byte_at-2 c =
+    let spaced : word_at c.args.text.now c.args.at (32 ∷ []) ≡ true =
+        sym c.byte_at.ensures ∙ c.if-not-byte_at.false in
+    let lower : signed_at c.args.text.now (c.args.at + 1) ≡ Whole c.in-Whole.low c.in-Whole.after =
+        sym c.read_signed.ensures ∙ c.in-Whole.is in
+    load_one_bound _ _ (spaced) (lower) (sym c.byte_at-2.ensures ∙ c.if-not-byte_at-2.true)
+
+pub overflow_add-after : goal.overflow_add-after
+overflow_add-after c =
+    let again : word_at c.args.text.now c.in-Whole.after (32 ∷ []) ≡ true =
+        sym c.byte_at-2.ensures ∙ c.if-not-byte_at-2.false in
+    let l = (byte_got _ _ _ (again)).1 in search rules
+
+pub returns-in_default-read_signed : goal.returns-in_default-read_signed
+returns-in_default-read_signed c =
+    let spaced : word_at c.args.text.now c.args.at (32 ∷ []) ≡ true =
+        sym c.byte_at.ensures ∙ c.if-not-byte_at.false in
+    let lower : signed_at c.args.text.now (c.args.at + 1) ≡ Whole c.in-Whole.low c.in-Whole.after =
+        sym c.read_signed.ensures ∙ c.in-Whole.is in
+    let again : word_at c.args.text.now c.in-Whole.after (32 ∷ []) ≡ true =
+        sym c.byte_at-2.ensures ∙ c.if-not-byte_at-2.false in
+    load_highless _ _ (spaced) (lower) (again)
+    (sym c.read_signed-2.ensures ∙ c.in_default-read_signed.is)
+
+pub read_terms-requires : goal.read_terms-requires
+read_terms-requires c =
+    let again : word_at c.args.text.now c.in-Whole.after (32 ∷ []) ≡ true =
+        sym c.byte_at-2.ensures ∙ c.if-not-byte_at-2.false in
+    let upper : signed_at c.args.text.now (c.in-Whole.after + 1) ≡ Whole c.in-Whole-read_signed.high c.in-Whole-read_signed.next =
+        sym c.read_signed-2.ensures ∙ c.in-Whole-read_signed.is in
+    let n = signed_after _ _ (again) (upper) in
+    (record { reached = n.2.inside; short = c.requires.inside.short }, (counts_within_lem _ c.requires.reached_value).terms)
+
+pub returns-in_default-read_terms : goal.returns-in_default-read_terms
+returns-in_default-read_terms c =
+    let spaced : word_at c.args.text.now c.args.at (32 ∷ []) ≡ true =
+        sym c.byte_at.ensures ∙ c.if-not-byte_at.false in
+    let lower : signed_at c.args.text.now (c.args.at + 1) ≡ Whole c.in-Whole.low c.in-Whole.after =
+        sym c.read_signed.ensures ∙ c.in-Whole.is in
+    let again : word_at c.args.text.now c.in-Whole.after (32 ∷ []) ≡ true =
+        sym c.byte_at-2.ensures ∙ c.if-not-byte_at-2.false in
+    let upper : signed_at c.args.text.now (c.in-Whole.after + 1) ≡ Whole c.in-Whole-read_signed.high c.in-Whole-read_signed.next =
+        sym c.read_signed-2.ensures ∙ c.in-Whole-read_signed.is in
+    load_listless _ _ (spaced) (lower) (again) (upper) c.read_terms.ensures c.in_default-read_terms.is
+
+pub store_load-requires : goal.store_load-requires
+store_load-requires c = let bounds = counts_within_lem _ c.requires.reached_value in
+    let small = count_small term_bytes read_term term_inverse c.in-Whole-read_signed.next c.requires.inside c.read_terms.ensures c.in-Listed.is in
+    (bounds.loads, omega (arith, bounds.terms), small)
+
+pub returns : goal.returns
+unfolding kind_number load_row of_kind same_kind terms_in view_of
+returns c =
+    let spaced : word_at c.args.text.now c.args.at (32 ∷ []) ≡ true =
+        sym c.byte_at.ensures ∙ c.if-not-byte_at.false in
+    let lower : signed_at c.args.text.now (c.args.at + 1) ≡ Whole c.in-Whole.low c.in-Whole.after =
+        sym c.read_signed.ensures ∙ c.in-Whole.is in
+    let again : word_at c.args.text.now c.in-Whole.after (32 ∷ []) ≡ true =
+        sym c.byte_at-2.ensures ∙ c.if-not-byte_at-2.false in
+    let upper : signed_at c.args.text.now (c.in-Whole.after + 1) ≡ Whole c.in-Whole-read_signed.high c.in-Whole-read_signed.next =
+        sym c.read_signed-2.ensures ∙ c.in-Whole-read_signed.is in
+    let once = spaced in
+    let kept = signed_kept _ _ once (lower) in
+    let held = signed_kept _ _ (again) (upper) in
+    load_formed _ _ once (lower) (again) (upper) c.read_terms.ensures
+    (c.bound_within.ensures ∙ ap (λ (z : ℤ). leb (nat_abs z) max_bound) kept) (c.bound_within-2.ensures ∙ ap (λ (z : ℤ). leb (nat_abs z) max_bound) held)
+    c.in-Listed.is (λ lo hi ts d e n w. (rw (← (kept ∙ d), ← (held ∙ e), ← n) c.store_load.ensures, w.0, w.1))

@@ -1,0 +1,61 @@
+-- `forms::read_rule_form` meets its contract: the space, the head and the literals, then the row.
+use Prim.Native.Nat.{◌+◌}
+use mathlib.Core.Path.{◌≡◌, sym, ◌∙◌}
+use mathlib.Core.Bool.{true}
+use mathlib.Core.List.{[], ◌∷◌}
+use native.Mathlib.Omega.{arith}
+use borrow.Author.Rules.{rules}
+use Rattle.numerals.specs.declared.numbers.Number.TheVariants.{Read}
+use Rattle.format.specs.Forms.{literal_bytes}
+use Rattle.format.specs.Words.{word_at}
+use Rattle.format.specs.Parse.{read_literal}
+use Rattle.numerals.specs.internal.Offsets.{number_at}
+use Rattle.format.proofs.Pieces.{literal_inverse}
+use Rattle.judging.proofs.Counts.{counts_within_lem}
+use Rattle.format.specs.Views.{view_of, of_kind, same_kind, kind_number}
+use Rattle.forms.specs.Entries.{rule_row, literals_in}
+use Rattle.forms.proofs.Gathered.{count_small}
+use Rattle.forms.proofs.FormLaws.{number_after}
+use Rattle.forms.proofs.RuleForm.{rule_unspaced, rule_headless, rule_listless, rule_formed}
+use Rattle.forms.proofs.read_rule_form.Goals as goal
+
+pub returns-then-not-byte_at : goal.returns-then-not-byte_at
+returns-then-not-byte_at c = rule_unspaced _ _ (sym c.byte_at.ensures ∙ c.if-not-byte_at.true)
+
+pub returns-in_default : goal.returns-in_default
+returns-in_default c =
+    let spaced : word_at c.args.text.now c.args.at (32 ∷ []) ≡ true =
+        sym c.byte_at.ensures ∙ c.if-not-byte_at.false in
+    rule_headless _ _ (spaced) (sym c.read_number.ensures ∙ c.in_default.is)
+
+pub read_literals-requires : goal.read_literals-requires
+read_literals-requires c =
+    let spaced : word_at c.args.text.now c.args.at (32 ∷ []) ≡ true =
+        sym c.byte_at.ensures ∙ c.if-not-byte_at.false in
+    let headed : number_at c.args.text.now (c.args.at + 1) ≡ Read c.in-Read.head c.in-Read.next =
+        sym c.read_number.ensures ∙ c.in-Read.is in
+    let n = number_after _ _ (spaced) (headed) in
+    (record { reached = n.2.inside; short = c.requires.inside.short }, (counts_within_lem _ c.requires.reached_value).literals)
+
+pub returns-in_default-read_literals : goal.returns-in_default-read_literals
+returns-in_default-read_literals c =
+    let spaced : word_at c.args.text.now c.args.at (32 ∷ []) ≡ true =
+        sym c.byte_at.ensures ∙ c.if-not-byte_at.false in
+    let headed : number_at c.args.text.now (c.args.at + 1) ≡ Read c.in-Read.head c.in-Read.next =
+        sym c.read_number.ensures ∙ c.in-Read.is in
+    rule_listless _ _ (spaced) (headed) c.read_literals.ensures c.in_default-read_literals.is
+
+pub store_rule-requires : goal.store_rule-requires
+store_rule-requires c = let bounds = counts_within_lem _ c.requires.reached_value in
+    let small = count_small literal_bytes read_literal literal_inverse c.in-Read.next c.requires.inside c.read_literals.ensures c.in-Listed.is in
+    (bounds.rules, omega (arith, bounds.literals), small)
+
+pub returns : goal.returns
+unfolding kind_number literals_in of_kind rule_row same_kind view_of
+returns c =
+    let spaced : word_at c.args.text.now c.args.at (32 ∷ []) ≡ true =
+        sym c.byte_at.ensures ∙ c.if-not-byte_at.false in
+    let headed : number_at c.args.text.now (c.args.at + 1) ≡ Read c.in-Read.head c.in-Read.next =
+        sym c.read_number.ensures ∙ c.in-Read.is in
+    rule_formed _ _ (spaced) (headed) c.read_literals.ensures c.in-Listed.is
+    (λ h ls e l n w. (rw (← e, ← n) (c.store_rule.ensures l), w))

@@ -1,0 +1,30 @@
+-- `rounds::setting::mark_negated` meets its contract: the marks are those of the entry with the atoms put on that occur negated at the places passed.
+use Prim.Native.Nat.{◌-◌}
+use mathlib.Core.Path.{sym, ◌∙◌}
+use native.Mathlib.Omega.{arith}
+use Rattle.wellfounded.specs.Literals.{is_negated}
+use Rattle.tables.proofs.MarkLaws.{marked_start, marked_end, mark_same, row_puts, row_passes}
+use Rattle.rounds.proofs.SettingLaws.{negated_places}
+use Rattle.rounds.proofs.setting.mark_negated.Goals as goal
+use Rattle.rounds.proofs.setting.mark_negated.Goals.{then-is_negated, else-is_negated}
+
+pub loop-place-init : goal.loop-place-init
+loop-place-init c = (omega arith, marked_start _ _)
+
+pub bounds-marks-atom_of : goal.bounds-marks-atom_of
+bounds-marks-atom_of c = omega (arith, c.requires _ c.loop-place-test.true)
+
+pub loop-place-preserved : goal.loop-place-preserved
+loop-place-preserved c = (
+  omega arith,
+  elim c.if-is_negated.branch [
+    | then-is_negated w ↦ rw w.marks-is (row_puts _ _ _ _ _ _ w.atom_of.ensures (sym c.is_negated.ensures ∙ w.if-is_negated.true) c.loop-place.invariant.1)
+    | else-is_negated w ↦ rw w.marks-is (row_passes _ _ _ _ _ (sym c.is_negated.ensures ∙ w.if-is_negated.false) c.loop-place.invariant.1)
+  ],
+)
+
+pub shape_of-marks : goal.shape_of-marks
+shape_of-marks c = c.loop-place.invariant.1.long
+
+pub returns : goal.returns
+returns c = marked_end _ _ _ _ _ (omega arith) c.loop-place.invariant.1 ∙ mark_same _ _ _ (negated_places _)

@@ -1,0 +1,19 @@
+-- `wellfounded::literal_true` meets its contract: each branch's test is a side of `true_read`.
+use Rattle.wellfounded.proofs.Literals.{true_read}
+use Rattle.wellfounded.proofs.literal_true.Goals as goal
+
+pub returns-then-is_negated : goal.returns-then-is_negated
+returns-then-is_negated c = rw (
+  c.atom_of.ensures,
+  true_read _ _ c.requires,
+  ← c.is_negated.ensures,
+  c.if-is_negated.true,
+)
+
+pub returns-else-is_negated : goal.returns-else-is_negated
+returns-else-is_negated c = rw (
+  c.atom_of.ensures,
+  true_read _ _ c.requires,
+  ← c.is_negated.ensures,
+  c.if-is_negated.false,
+)
