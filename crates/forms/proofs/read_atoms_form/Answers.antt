@@ -17,29 +17,29 @@ returns-then-not-byte_at c = atoms_unspaced _ _ (sym c.byte_at.ensures ∙ c.if-
 pub returns-in_default : goal.returns-in_default
 returns-in_default c =
     let spaced : word_at c.args.text.now c.args.at (32 ∷ []) ≡ true =
-        sym c.byte_at.ensures ∙ c.if-not-byte_at.false in
+    sym c.byte_at.ensures ∙ c.if-not-byte_at.false in
     atoms_sizeless _ _ (spaced) (sym c.read_number.ensures ∙ c.in_default.is)
 
 pub returns-then-not-byte_at-2 : goal.returns-then-not-byte_at-2
 returns-then-not-byte_at-2 c =
     let spaced : word_at c.args.text.now c.args.at (32 ∷ []) ≡ true =
-        sym c.byte_at.ensures ∙ c.if-not-byte_at.false in
+    sym c.byte_at.ensures ∙ c.if-not-byte_at.false in
     let sized : number_at c.args.text.now (c.args.at + 1) ≡ Read c.in-Read.size c.in-Read.next =
-        sym c.read_number.ensures ∙ c.in-Read.is in
+    sym c.read_number.ensures ∙ c.in-Read.is in
     atoms_unclosed _ _ (spaced) (sized) (sym c.byte_at-2.ensures ∙ c.if-not-byte_at-2.true)
 
 pub overflow_add-result : goal.overflow_add-result
 overflow_add-result c =
     let closed : word_at c.args.text.now c.in-Read.next (41 ∷ []) ≡ true =
-        sym c.byte_at-2.ensures ∙ c.if-not-byte_at-2.false in
+    sym c.byte_at-2.ensures ∙ c.if-not-byte_at-2.false in
     let l = (byte_got _ _ _ (closed)).1 in search rules
 
 pub returns : goal.returns
 returns c =
     let spaced : word_at c.args.text.now c.args.at (32 ∷ []) ≡ true =
-        sym c.byte_at.ensures ∙ c.if-not-byte_at.false in
+    sym c.byte_at.ensures ∙ c.if-not-byte_at.false in
     let sized : number_at c.args.text.now (c.args.at + 1) ≡ Read c.in-Read.size c.in-Read.next =
-        sym c.read_number.ensures ∙ c.in-Read.is in
+    sym c.read_number.ensures ∙ c.in-Read.is in
     let closed : word_at c.args.text.now c.in-Read.next (41 ∷ []) ≡ true =
-        sym c.byte_at-2.ensures ∙ c.if-not-byte_at-2.false in
+    sym c.byte_at-2.ensures ∙ c.if-not-byte_at-2.false in
     atoms_formed _ _ (spaced) (sized) (closed) _ c.clear.ensures

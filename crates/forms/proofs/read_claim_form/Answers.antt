@@ -19,36 +19,36 @@ use Rattle.forms.proofs.read_claim_form.Goals as goal
 
 pub read_pairs-requires : goal.read_pairs-requires
 read_pairs-requires c = let some = groups_some c.args.reached in
-    (c.requires.inside, rw c.groups_reached-groups.ensures (some.0, some.1, c.requires.size_le_max_atoms))
+    record { inside = c.requires.inside; le_groups = rw c.groups_reached-groups.ensures (some.0, some.1, c.requires.size_le_max_atoms) }
 
 pub returns-in_default : goal.returns-in_default
 returns-in_default c =
     let Listed-by : ℕ → Type 0 =
-        λ groups. Lists c.args.text.now pair_within (all (levels_for groups)) (parts read_pair (drop c.args.at c.args.text.now)) c.read_pairs.result λ ps.
+    λ groups. Lists c.args.text.now pair_within (all (levels_for groups)) (parts read_pair (drop c.args.at c.args.text.now)) c.read_pairs.result λ ps.
     (c.read_pairs.new.values ≡ sets c.args.values.now 0 (map (λ (p : PairText). p.value) ps))
     × (length ps ≡ c.args.reached.size → c.read_pairs.new.levels ≡ sets c.args.levels.now 0 (level_columns groups ps)) in
     let listed : Listed-by (groups_reached c.args.reached) =
-        subst (λ (groups : ℕ). Listed-by groups) c.groups_reached-groups.ensures c.read_pairs.ensures in
+    subst (λ (groups : ℕ). Listed-by groups) c.groups_reached-groups.ensures c.read_pairs.ensures in
     claim_listless c.args.at (listed) c.in_default.is
 
 pub returns-then-not-levelled : goal.returns-then-not-levelled
 returns-then-not-levelled c =
     let Listed-by : ℕ → Type 0 =
-        λ groups. Lists c.args.text.now pair_within (all (levels_for groups)) (parts read_pair (drop c.args.at c.args.text.now)) c.read_pairs.result λ ps.
+    λ groups. Lists c.args.text.now pair_within (all (levels_for groups)) (parts read_pair (drop c.args.at c.args.text.now)) c.read_pairs.result λ ps.
     (c.read_pairs.new.values ≡ sets c.args.values.now 0 (map (λ (p : PairText). p.value) ps))
     × (length ps ≡ c.args.reached.size → c.read_pairs.new.levels ≡ sets c.args.levels.now 0 (level_columns groups ps)) in
     let listed : Listed-by (groups_reached c.args.reached) =
-        subst (λ (groups : ℕ). Listed-by groups) c.groups_reached-groups.ensures c.read_pairs.ensures in
+    subst (λ (groups : ℕ). Listed-by groups) c.groups_reached-groups.ensures c.read_pairs.ensures in
     claim_unlevelled c.args.at (listed) c.in-Listed.is (c.if-not-levelled.true)
 
 pub returns : goal.returns
 unfolding kind_number of_kind same_kind state_levels state_values view_of
 returns c =
     let Listed-by : ℕ → Type 0 =
-        λ groups. Lists c.args.text.now pair_within (all (levels_for groups)) (parts read_pair (drop c.args.at c.args.text.now)) c.read_pairs.result λ ps.
+    λ groups. Lists c.args.text.now pair_within (all (levels_for groups)) (parts read_pair (drop c.args.at c.args.text.now)) c.read_pairs.result λ ps.
     (c.read_pairs.new.values ≡ sets c.args.values.now 0 (map (λ (p : PairText). p.value) ps))
     × (length ps ≡ c.args.reached.size → c.read_pairs.new.levels ≡ sets c.args.levels.now 0 (level_columns groups ps)) in
     let listed : Listed-by (groups_reached c.args.reached) =
-        subst (λ (groups : ℕ). Listed-by groups) c.groups_reached-groups.ensures c.read_pairs.ensures in
+    subst (λ (groups : ℕ). Listed-by groups) c.groups_reached-groups.ensures c.read_pairs.ensures in
     claim_formed c.args.at (listed) c.in-Listed.is (c.if-not-levelled.false)
     (λ ps n w. (w.0, w.1 n))

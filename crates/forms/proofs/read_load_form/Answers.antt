@@ -29,53 +29,53 @@ returns-then-not-byte_at c = load_unspaced _ _ (sym c.byte_at.ensures ∙ c.if-n
 pub returns-in_default : goal.returns-in_default
 returns-in_default c =
     let spaced : word_at c.args.text.now c.args.at (32 ∷ []) ≡ true =
-        sym c.byte_at.ensures ∙ c.if-not-byte_at.false in
+    sym c.byte_at.ensures ∙ c.if-not-byte_at.false in
     load_lowless _ _ (spaced) (sym c.read_signed.ensures ∙ c.in_default.is)
 
 pub returns-then-not-byte_at-2 : goal.returns-then-not-byte_at-2
 returns-then-not-byte_at-2 c =
     let spaced : word_at c.args.text.now c.args.at (32 ∷ []) ≡ true =
-        sym c.byte_at.ensures ∙ c.if-not-byte_at.false in
+    sym c.byte_at.ensures ∙ c.if-not-byte_at.false in
     let lower : signed_at c.args.text.now (c.args.at + 1) ≡ Whole c.in-Whole.low c.in-Whole.after =
-        sym c.read_signed.ensures ∙ c.in-Whole.is in
+    sym c.read_signed.ensures ∙ c.in-Whole.is in
     load_one_bound _ _ (spaced) (lower) (sym c.byte_at-2.ensures ∙ c.if-not-byte_at-2.true)
 
 pub overflow_add-after : goal.overflow_add-after
 overflow_add-after c =
     let again : word_at c.args.text.now c.in-Whole.after (32 ∷ []) ≡ true =
-        sym c.byte_at-2.ensures ∙ c.if-not-byte_at-2.false in
+    sym c.byte_at-2.ensures ∙ c.if-not-byte_at-2.false in
     let l = (byte_got _ _ _ (again)).1 in search rules
 
 pub returns-in_default-read_signed : goal.returns-in_default-read_signed
 returns-in_default-read_signed c =
     let spaced : word_at c.args.text.now c.args.at (32 ∷ []) ≡ true =
-        sym c.byte_at.ensures ∙ c.if-not-byte_at.false in
+    sym c.byte_at.ensures ∙ c.if-not-byte_at.false in
     let lower : signed_at c.args.text.now (c.args.at + 1) ≡ Whole c.in-Whole.low c.in-Whole.after =
-        sym c.read_signed.ensures ∙ c.in-Whole.is in
+    sym c.read_signed.ensures ∙ c.in-Whole.is in
     let again : word_at c.args.text.now c.in-Whole.after (32 ∷ []) ≡ true =
-        sym c.byte_at-2.ensures ∙ c.if-not-byte_at-2.false in
+    sym c.byte_at-2.ensures ∙ c.if-not-byte_at-2.false in
     load_highless _ _ (spaced) (lower) (again)
     (sym c.read_signed-2.ensures ∙ c.in_default-read_signed.is)
 
 pub read_terms-requires : goal.read_terms-requires
 read_terms-requires c =
     let again : word_at c.args.text.now c.in-Whole.after (32 ∷ []) ≡ true =
-        sym c.byte_at-2.ensures ∙ c.if-not-byte_at-2.false in
+    sym c.byte_at-2.ensures ∙ c.if-not-byte_at-2.false in
     let upper : signed_at c.args.text.now (c.in-Whole.after + 1) ≡ Whole c.in-Whole-read_signed.high c.in-Whole-read_signed.next =
-        sym c.read_signed-2.ensures ∙ c.in-Whole-read_signed.is in
+    sym c.read_signed-2.ensures ∙ c.in-Whole-read_signed.is in
     let n = signed_after _ _ (again) (upper) in
-    (record { reached = n.2.inside; short = c.requires.inside.short }, (counts_within_lem _ c.requires.reached_value).terms)
+    record { inside = record { reached = n.2.inside; short = c.requires.inside.short }; from_le_max_terms = (counts_within_lem _ c.requires.reached_value).terms }
 
 pub returns-in_default-read_terms : goal.returns-in_default-read_terms
 returns-in_default-read_terms c =
     let spaced : word_at c.args.text.now c.args.at (32 ∷ []) ≡ true =
-        sym c.byte_at.ensures ∙ c.if-not-byte_at.false in
+    sym c.byte_at.ensures ∙ c.if-not-byte_at.false in
     let lower : signed_at c.args.text.now (c.args.at + 1) ≡ Whole c.in-Whole.low c.in-Whole.after =
-        sym c.read_signed.ensures ∙ c.in-Whole.is in
+    sym c.read_signed.ensures ∙ c.in-Whole.is in
     let again : word_at c.args.text.now c.in-Whole.after (32 ∷ []) ≡ true =
-        sym c.byte_at-2.ensures ∙ c.if-not-byte_at-2.false in
+    sym c.byte_at-2.ensures ∙ c.if-not-byte_at-2.false in
     let upper : signed_at c.args.text.now (c.in-Whole.after + 1) ≡ Whole c.in-Whole-read_signed.high c.in-Whole-read_signed.next =
-        sym c.read_signed-2.ensures ∙ c.in-Whole-read_signed.is in
+    sym c.read_signed-2.ensures ∙ c.in-Whole-read_signed.is in
     load_listless _ _ (spaced) (lower) (again) (upper) c.read_terms.ensures c.in_default-read_terms.is
 
 pub store_load-requires : goal.store_load-requires
@@ -87,13 +87,13 @@ pub returns : goal.returns
 unfolding kind_number load_row of_kind same_kind terms_in view_of
 returns c =
     let spaced : word_at c.args.text.now c.args.at (32 ∷ []) ≡ true =
-        sym c.byte_at.ensures ∙ c.if-not-byte_at.false in
+    sym c.byte_at.ensures ∙ c.if-not-byte_at.false in
     let lower : signed_at c.args.text.now (c.args.at + 1) ≡ Whole c.in-Whole.low c.in-Whole.after =
-        sym c.read_signed.ensures ∙ c.in-Whole.is in
+    sym c.read_signed.ensures ∙ c.in-Whole.is in
     let again : word_at c.args.text.now c.in-Whole.after (32 ∷ []) ≡ true =
-        sym c.byte_at-2.ensures ∙ c.if-not-byte_at-2.false in
+    sym c.byte_at-2.ensures ∙ c.if-not-byte_at-2.false in
     let upper : signed_at c.args.text.now (c.in-Whole.after + 1) ≡ Whole c.in-Whole-read_signed.high c.in-Whole-read_signed.next =
-        sym c.read_signed-2.ensures ∙ c.in-Whole-read_signed.is in
+    sym c.read_signed-2.ensures ∙ c.in-Whole-read_signed.is in
     let once = spaced in
     let kept = signed_kept _ _ once (lower) in
     let held = signed_kept _ _ (again) (upper) in

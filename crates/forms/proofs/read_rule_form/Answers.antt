@@ -4,7 +4,6 @@ use mathlib.Core.Path.{◌≡◌, sym, ◌∙◌}
 use mathlib.Core.Bool.{true}
 use mathlib.Core.List.{[], ◌∷◌}
 use native.Mathlib.Omega.{arith}
-use borrow.Author.Rules.{rules}
 use Rattle.numerals.specs.declared.numbers.Number.TheVariants.{Read}
 use Rattle.format.specs.Forms.{literal_bytes}
 use Rattle.format.specs.Words.{word_at}
@@ -25,24 +24,24 @@ returns-then-not-byte_at c = rule_unspaced _ _ (sym c.byte_at.ensures ∙ c.if-n
 pub returns-in_default : goal.returns-in_default
 returns-in_default c =
     let spaced : word_at c.args.text.now c.args.at (32 ∷ []) ≡ true =
-        sym c.byte_at.ensures ∙ c.if-not-byte_at.false in
+    sym c.byte_at.ensures ∙ c.if-not-byte_at.false in
     rule_headless _ _ (spaced) (sym c.read_number.ensures ∙ c.in_default.is)
 
 pub read_literals-requires : goal.read_literals-requires
 read_literals-requires c =
     let spaced : word_at c.args.text.now c.args.at (32 ∷ []) ≡ true =
-        sym c.byte_at.ensures ∙ c.if-not-byte_at.false in
+    sym c.byte_at.ensures ∙ c.if-not-byte_at.false in
     let headed : number_at c.args.text.now (c.args.at + 1) ≡ Read c.in-Read.head c.in-Read.next =
-        sym c.read_number.ensures ∙ c.in-Read.is in
+    sym c.read_number.ensures ∙ c.in-Read.is in
     let n = number_after _ _ (spaced) (headed) in
-    (record { reached = n.2.inside; short = c.requires.inside.short }, (counts_within_lem _ c.requires.reached_value).literals)
+    record { inside = record { reached = n.2.inside; short = c.requires.inside.short }; from_le_max_literals = (counts_within_lem _ c.requires.reached_value).literals }
 
 pub returns-in_default-read_literals : goal.returns-in_default-read_literals
 returns-in_default-read_literals c =
     let spaced : word_at c.args.text.now c.args.at (32 ∷ []) ≡ true =
-        sym c.byte_at.ensures ∙ c.if-not-byte_at.false in
+    sym c.byte_at.ensures ∙ c.if-not-byte_at.false in
     let headed : number_at c.args.text.now (c.args.at + 1) ≡ Read c.in-Read.head c.in-Read.next =
-        sym c.read_number.ensures ∙ c.in-Read.is in
+    sym c.read_number.ensures ∙ c.in-Read.is in
     rule_listless _ _ (spaced) (headed) c.read_literals.ensures c.in_default-read_literals.is
 
 pub store_rule-requires : goal.store_rule-requires
@@ -54,8 +53,8 @@ pub returns : goal.returns
 unfolding kind_number literals_in of_kind rule_row same_kind view_of
 returns c =
     let spaced : word_at c.args.text.now c.args.at (32 ∷ []) ≡ true =
-        sym c.byte_at.ensures ∙ c.if-not-byte_at.false in
+    sym c.byte_at.ensures ∙ c.if-not-byte_at.false in
     let headed : number_at c.args.text.now (c.args.at + 1) ≡ Read c.in-Read.head c.in-Read.next =
-        sym c.read_number.ensures ∙ c.in-Read.is in
+    sym c.read_number.ensures ∙ c.in-Read.is in
     rule_formed _ _ (spaced) (headed) c.read_literals.ensures c.in-Listed.is
     (λ h ls e l n w. (rw (← e, ← n) (c.store_rule.ensures l), w))

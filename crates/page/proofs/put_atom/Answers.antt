@@ -11,20 +11,20 @@ use Rattle.page.proofs.put_atom.Goals as goal
 pub put-begun-requires : goal.put-begun-requires
 put-begun-requires c =
     let room : c.args.at + (10 + (length (decimal c.args.atom) + (length (decimal c.args.value) + length (decimal c.args.level)))) ≤ length c.args.page.now =
-        omega (arith, length_atom_line c.args.atom c.args.value c.args.level, c.requires.level_in_bounds) in
+    omega (arith, length_atom_line c.args.atom c.args.value c.args.level, c.requires.level_in_bounds) in
     omega (arith, room)
 
 pub put_decimal-named-requires : goal.put_decimal-named-requires
 put_decimal-named-requires c =
     let room : c.args.at + (10 + (length (decimal c.args.atom) + (length (decimal c.args.value) + length (decimal c.args.level)))) ≤ length c.args.page.now =
-        omega (arith, length_atom_line c.args.atom c.args.value c.args.level, c.requires.level_in_bounds) in
+    omega (arith, length_atom_line c.args.atom c.args.value c.args.level, c.requires.level_in_bounds) in
     let begun = c.put-begun.ensures in
     (omega (arith, c.requires.atom_le_max_position.0), omega (arith, room, c.put-begun.ensures.answered, puts_length begun))
 
 pub put_spaced-valued-requires : goal.put_spaced-valued-requires
 put_spaced-valued-requires c =
     let room : c.args.at + (10 + (length (decimal c.args.atom) + (length (decimal c.args.value) + length (decimal c.args.level)))) ≤ length c.args.page.now =
-        omega (arith, length_atom_line c.args.atom c.args.value c.args.level, c.requires.level_in_bounds) in
+    omega (arith, length_atom_line c.args.atom c.args.value c.args.level, c.requires.level_in_bounds) in
     let begun = c.put-begun.ensures in
     let named = c.put_decimal-named.ensures in
     (c.requires.atom_le_max_position.1, omega (arith, room, c.put-begun.ensures.answered, puts_length begun, c.put_decimal-named.ensures.answered, puts_length named))
@@ -32,7 +32,7 @@ put_spaced-valued-requires c =
 pub put_spaced-levelled-requires : goal.put_spaced-levelled-requires
 put_spaced-levelled-requires c =
     let room : c.args.at + (10 + (length (decimal c.args.atom) + (length (decimal c.args.value) + length (decimal c.args.level)))) ≤ length c.args.page.now =
-        omega (arith, length_atom_line c.args.atom c.args.value c.args.level, c.requires.level_in_bounds) in
+    omega (arith, length_atom_line c.args.atom c.args.value c.args.level, c.requires.level_in_bounds) in
     let begun = c.put-begun.ensures in
     let named = c.put_decimal-named.ensures in
     let valued = c.put_spaced-valued.ensures in
@@ -41,7 +41,7 @@ put_spaced-levelled-requires c =
 pub put-requires : goal.put-requires
 put-requires c =
     let room : c.args.at + (10 + (length (decimal c.args.atom) + (length (decimal c.args.value) + length (decimal c.args.level)))) ≤ length c.args.page.now =
-        omega (arith, length_atom_line c.args.atom c.args.value c.args.level, c.requires.level_in_bounds) in
+    omega (arith, length_atom_line c.args.atom c.args.value c.args.level, c.requires.level_in_bounds) in
     let begun = c.put-begun.ensures in
     let named = c.put_decimal-named.ensures in
     let valued = c.put_spaced-valued.ensures in

@@ -1,5 +1,4 @@
 -- `page::put_lines` meets its contract: the lines of the atoms passed are on the page.
-use Prim.Native.Nat.{◌-◌}
 use native.Mathlib.Omega.{arith}
 use lib.ListN.{get_or}
 use Rattle.printing.proofs.PutLaws.{puts_length}
@@ -30,14 +29,15 @@ overflow_cast-levels c = omega (arith, c.shared_slice_known-in-loop-place-3-1.gi
 
 pub put_atom-next-requires : goal.put_atom-next-requires
 put_atom-next-requires c = let place = c.loop-place.place in
-    let atom = get_or c.args.atoms.now place 0 in (
-      (
+    let atom = get_or c.args.atoms.now place 0 in
+    record {
+      atom_le_max_position = (
         omega (arith, c.requires.listable.paired.few, c.requires.listable.within place (omega arith)),
         omega (arith, c.shared_slice_known-in-loop-place-2-1.given atom),
         omega (arith, c.shared_slice_known-in-loop-place-3-1.given atom),
-      ),
-      joined_fits _ _ _ _ _ _ _ (omega arith) (rw (lines_placed c.args.values.now c.args.levels.now c.args.atoms.now) at c.requires.atoms_in_bounds) c.loop-place.invariant.1,
-    )
+      );
+      level_in_bounds = joined_fits _ _ _ _ _ _ _ (omega arith) (rw (lines_placed c.args.values.now c.args.levels.now c.args.atoms.now) at c.requires.atoms_in_bounds) c.loop-place.invariant.1;
+    }
 
 pub loop-place-preserved : goal.loop-place-preserved
 loop-place-preserved c = (omega arith, joined_more _ _ c.loop-place.invariant.1 c.put_atom-next.ensures)

@@ -17,7 +17,10 @@ put_made-counted-requires c = (omega (arith, c.requires.verdict_bound.1), omega 
 pub put_atoms-listed-requires : goal.put_atoms-listed-requires
 put_atoms-listed-requires c = let long = length_whole c.args.made c.args.verdict c.args.rounds c.args.values.now c.args.levels.now c.if-not-made.false-raw in
     let counted = c.put_made-counted.ensures in
-    (c.requires.printable, (omega (arith, c.requires.verdict_bound.1), omega (arith, long, c.requires.verdict_bound.2, c.put_made-counted.ensures.answered, puts_length counted)))
+    record {
+      printable = c.requires.printable;
+      rounds_le_max_atoms = (omega (arith, c.requires.verdict_bound.1), omega (arith, long, c.requires.verdict_bound.2, c.put_made-counted.ensures.answered, puts_length counted));
+    }
 
 pub put_verdict-requires-2 : goal.put_verdict-requires-2
 put_verdict-requires-2 c = let long = length_whole c.args.made c.args.verdict c.args.rounds c.args.values.now c.args.levels.now c.if-not-made.false-raw in

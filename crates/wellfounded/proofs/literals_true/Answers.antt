@@ -1,8 +1,7 @@
 -- `wellfounded::literals_true` meets its contract: the literals from `i` on are all true where the whole body is.
-use Prim.Native.Nat.{◌-◌}
 use mathlib.Core.Path.{sym, ◌∙◌}
 use native.Mathlib.Omega.{arith}
-use Rattle.wellfounded.specs.Literals.{body_true, literal_true}
+use Rattle.wellfounded.specs.Literals.{body_true}
 use Rattle.wellfounded.proofs.Scan.{scan_start, scan_turn, scan_stop, scan_end}
 use Rattle.wellfounded.proofs.literals_true.Goals as goal
 
