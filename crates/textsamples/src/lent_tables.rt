@@ -7,14 +7,8 @@ use shown::{end_line, show_levels, show_values};
 use std::io;
 
 fn show_whole(rt: &impl Print, number: i32) -> io::Result<()> {
-    if number < 0 {
-        rt.write_all(b" -")?;
-        rt.print((0 - number as i64) as u64)?;
-    } else {
-        rt.write_all(b" ")?;
-        rt.print(number as u64)?;
-    }
-    Ok(())
+    rt.write_all(b" ")?;
+    rt.print(number)
 }
 
 fn bar(rt: &impl Print) -> io::Result<()> {
