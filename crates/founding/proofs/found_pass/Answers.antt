@@ -1,5 +1,4 @@
 -- `founding::found_pass` meets its contract: the marks are those that the rows passed make of the entry's, and so many are new.
-use Prim.Native.Nat.{◌-◌}
 use native.Mathlib.Omega.{arith}
 use Rattle.founding.proofs.FoundingLaws.{unmarked_le, passed_start, passed_turn, passed_end}
 use Rattle.founding.proofs.found_pass.Goals as goal

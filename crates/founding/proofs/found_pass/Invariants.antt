@@ -1,6 +1,5 @@
 -- `founding::found_pass` meets its contract: the marks are those that the rows passed make of the entry's, and so many are new.
 use Prim.Native.Nat.{◌-◌, ◌≤◌}
-use borrow.Author.Rules.{rules}
 use Rattle.founding.proofs.FoundingLaws.{PassedTo}
 use Rattle.founding.proofs.found_pass.Given as goal
 

@@ -1,7 +1,7 @@
 -- `founding::found_row` meets its contract: it marks nothing if the head is decided or marked, or if the body does not found it.
 use mathlib.Core.Path.{sym, ◌∙◌}
 use native.Mathlib.Omega.{arith}
-use borrow.Author.Tests.{eqb-true, eqb-false}
+use borrow.Author.Tests.{eqb-false}
 use Rattle.tables.specs.Rows.{rule_body}
 use Rattle.tables.proofs.MarkLaws.{look_decided, look_again, look_fails, look_marks}
 use Rattle.founding.specs.internal.Founding.{row_founds, found_row}

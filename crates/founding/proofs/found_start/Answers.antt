@@ -1,9 +1,7 @@
 -- `founding::found_start` meets its contract: the marks below `atom` are those to begin with.
-use Prim.Native.Nat.{◌-◌}
 use native.Mathlib.Omega.{arith}
 use Rattle.founding.specs.internal.Founding.{found_start}
 use Rattle.wellfounded.proofs.InPlace.{written_start, written_turn, written_end}
-use Rattle.founding.proofs.FoundingLaws.{start_mark}
 use Rattle.founding.proofs.found_start.Goals as goal
 
 pub loop-atom-init : goal.loop-atom-init

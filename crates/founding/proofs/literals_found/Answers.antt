@@ -1,5 +1,4 @@
 -- `founding::literals_found` meets its contract: what the literals from `i` on make of the test is what the whole body does.
-use Prim.Native.Nat.{◌-◌}
 use mathlib.Core.Path.{sym, ◌∙◌}
 use native.Mathlib.Omega.{arith}
 use Rattle.wellfounded.proofs.Scan.{scan_start, scan_turn, scan_stop, scan_end}

@@ -1,7 +1,6 @@
 -- `indexing::index` meets its contract: where nothing is refused the index is built, else both slices are left alone.
 use Prim.Native.Nat.{◌*◌}
 use mathlib.Core.Path.{sym, ◌∙◌}
-use borrow.Author.Rules.{rules}
 use Rattle.tables.specs.Sound.{Tables, lent}
 use Rattle.indexing.proofs.IndexLaws.{ready, refused_leaves, accepted_builds}
 use Rattle.indexing.proofs.index.Goals as goal

@@ -1,7 +1,6 @@
 -- `indexing::index_fault` meets its contract: tables without a fault leave the verdict to the marks, and these to the lengths of the slices.
 use mathlib.Core.Path.{sym, ◌∙◌}
 use native.Mathlib.Omega.{arith}
-use borrow.Author.Rules.{rules}
 use Rattle.tables.specs.Sound.{Tables, lent, table_tests}
 use Rattle.tables.proofs.Faults.{accepted_absent}
 use Rattle.tables.proofs.SoundTables.{sound_sizes, marks_refuse, marks_leave}

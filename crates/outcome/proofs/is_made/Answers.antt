@@ -1,20 +1,19 @@
 -- `outcome::is_made` meets its contract: the faults of a model are those that the code names.
-use mathlib.Core.Path.{◌≡◌, refl, sym}
-use mathlib.Core.Bool.{false, not}
-use types.Run.{OneOf}
-use denote.Enum.Declared.{tag_of}
-use borrow.Author.Tests.{not-true}
+use mathlib.Core.Path.{◌≡◌, refl}
+use mathlib.Core.Bool.{false}
 use Rattle.tables.specs.declared.Fault.{Fault}
 use Rattle.wellfounded.specs.Lists.{any}
-use Rattle.tables.specs.contracts.Fault.{enum, the_type}
-use Rattle.tables.proofs.Enums.{variants_where, arm_passes}
+use Rattle.tables.specs.declared.Fault.TheVariants.{Undecided, FailingClause, FailingLoad}
 use Rattle.evaluator.specs.Evaluate.{model_fault, is_made}
 use Rattle.outcome.proofs.is_made.Goals as goal
 
 -- The last arm takes the faults that are no model's.
-not-model : (fault : Fault) → OneOf (variants_where enum (λ f. not (model_fault f))) (tag_of the_type fault) → false ≡ model_fault fault
+not_model : (fault : Fault) → (fault ≡ Undecided → ⊥) → (fault ≡ FailingClause → ⊥) → (fault ≡ FailingLoad → ⊥) → false ≡ model_fault fault
 unfolding model_fault any
-not-model fault o = sym (not-true _ (arm_passes enum (λ f. not (model_fault f)) refl fault o))
+not_model Undecided u c l = absurd (u refl)
+not_model FailingClause u c l = absurd (c refl)
+not_model FailingLoad u c l = absurd (l refl)
+not_model _ u c l = refl
 
 pub returns-in-Accepted : goal.returns-in-Accepted
 unfolding is_made
@@ -34,4 +33,4 @@ returns-in-FailingLoad c = rw (c.in-Refused.is, c.in-FailingLoad.is)
 
 pub returns-in_default : goal.returns-in_default
 unfolding any is_made model_fault
-returns-in_default c = rw c.in-Refused.is (not-model c.in-Refused.fault c.in_default.keys4)
+returns-in_default c = rw c.in-Refused.is (not_model c.in-Refused.fault c.in_default.not-Undecided c.in_default.not-FailingClause c.in_default.not-FailingLoad)

@@ -1,5 +1,4 @@
 -- `rounds::rounds::decide` meets its contract: what is decided of the atoms passed is that of the definitions, the others are as they were.
-use Prim.Native.Nat.{◌-◌}
 use native.Mathlib.Omega.{arith}
 use Rattle.wellfounded.proofs.Lists.{count_le}
 use Rattle.rounds.specs.internal.Deciding.{decides}

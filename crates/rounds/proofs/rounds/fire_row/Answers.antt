@@ -1,7 +1,6 @@
 -- `rounds::rounds::fire_row` meets its contract: it marks nothing if the head is decided or marked, or if the body is not all true.
 use mathlib.Core.Path.{sym, ◌∙◌}
 use native.Mathlib.Omega.{arith}
-use borrow.Author.Tests.{eqb-true}
 use Rattle.tables.specs.Rows.{rule_body}
 use Rattle.tables.proofs.MarkLaws.{look_decided, look_again, look_fails, look_marks}
 use Rattle.rounds.specs.internal.Firing.{row_fires}

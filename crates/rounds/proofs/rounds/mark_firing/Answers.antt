@@ -1,5 +1,4 @@
 -- `rounds::rounds::mark_firing` meets its contract: the marks are those of the entry with the atoms that the rows passed make true put on.
-use Prim.Native.Nat.{◌-◌}
 use native.Mathlib.Omega.{arith}
 use Rattle.tables.proofs.MarkLaws.{marked_start, marked_end, marked_look}
 use Rattle.rounds.specs.internal.Firing.{fires_by}

@@ -1,5 +1,4 @@
 -- `rounds::setting::bad_setting` meets its contract: below `atom` no value fails.
-use Prim.Native.Nat.{◌-◌}
 use mathlib.Core.Path.{◌∙◌}
 use native.Mathlib.Omega.{arith}
 use borrow.Author.Tests.{lt-ltb, le-ltb}

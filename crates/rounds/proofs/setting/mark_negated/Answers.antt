@@ -1,8 +1,6 @@
 -- `rounds::setting::mark_negated` meets its contract: the marks are those of the entry with the atoms put on that occur negated at the places passed.
-use Prim.Native.Nat.{◌-◌}
 use mathlib.Core.Path.{sym, ◌∙◌}
 use native.Mathlib.Omega.{arith}
-use Rattle.wellfounded.specs.Literals.{is_negated}
 use Rattle.tables.proofs.MarkLaws.{marked_start, marked_end, mark_same, row_puts, row_passes}
 use Rattle.rounds.proofs.SettingLaws.{negated_places}
 use Rattle.rounds.proofs.setting.mark_negated.Goals as goal

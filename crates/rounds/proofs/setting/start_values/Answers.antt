@@ -1,5 +1,4 @@
 -- `rounds::setting::start_values` meets its contract: the values of the atoms passed are those of stage 0.
-use Prim.Native.Nat.{◌-◌}
 use mathlib.Core.Path.{◌∙◌}
 use native.Mathlib.Omega.{arith}
 use Rattle.rounds.specs.internal.Starting.{start_values}

@@ -1,6 +1,5 @@
 -- `rounds::stages::evaluate_stages` meets its contract: at the loop's head the slices hold the stage after so many rounds, each of which
 -- has changed something, so these are no more than the atoms; the first round that changes nothing shows the closure.
-use Prim.Native.Nat.{◌-◌}
 use mathlib.Core.Path.{refl, sym, ◌∙◌}
 use native.Mathlib.Numerals.{add-one}
 use native.Mathlib.Omega.{arith}

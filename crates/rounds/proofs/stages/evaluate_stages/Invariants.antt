@@ -3,7 +3,6 @@
 use Prim.Native.Nat.{◌-◌}
 use mathlib.Core.Path.{◌≡◌}
 use lib.ListN.{length}
-use borrow.Author.Rules.{rules}
 use Rattle.wellfounded.specs.Definitions.{Definition}
 use Rattle.rounds.specs.internal.Rounds.{AtStage, Lends}
 use Rattle.rounds.proofs.stages.evaluate_stages.Given as goal
