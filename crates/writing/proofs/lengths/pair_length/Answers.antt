@@ -12,12 +12,12 @@ width-requires c = omega (arith, c.shared_slice_known-3-1.given c.args.atom)
 
 pub returns : goal.returns
 returns c = record {
-      is =
-          omega (
-            arith,
-            pair_length (length c.args.values.now) c.args.groups c.args.values.now c.args.levels.now c.args.atom,
-            c.width.ensures.0,
-            c.levels_length.ensures.is,
-          );
-      few = omega (arith, c.width.ensures.1, c.levels_length.ensures.few, c.requires.2);
-    }
+  is =
+      omega (
+        arith,
+        pair_length (length c.args.values.now) c.args.groups c.args.values.now c.args.levels.now c.args.atom,
+        c.width.ensures.0,
+        c.levels_length.ensures.is,
+      );
+  few = omega (arith, c.width.ensures.1, c.levels_length.ensures.few, c.requires.2);
+}

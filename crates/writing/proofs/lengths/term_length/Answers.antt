@@ -11,19 +11,19 @@ use Rattle.writing.proofs.lengths.term_length.Goals as goal
 pub overflow_cast-minutes : goal.overflow_cast-minutes
 overflow_cast-minutes c =
     let fits : SFits w16 (get_or c.args.minutes.now c.args.place (pos 0)) =
-        record { sfits = c.signed_width-arg-1.given } in
+    record { sfits = c.signed_width-arg-1.given } in
     minutes_fit_lem (fits)
 
 pub signed_width-requires : goal.signed_width-requires
 signed_width-requires c =
     let fits : SFits w16 (get_or c.args.minutes.now c.args.place (pos 0)) =
-        record { sfits = c.signed_width-arg-1.given } in
+    record { sfits = c.signed_width-arg-1.given } in
     minutes_printed (fits)
 
 pub returns : goal.returns
 returns c =
     let fits : SFits w16 (get_or c.args.minutes.now c.args.place (pos 0)) =
-        record { sfits = c.signed_width-arg-1.given } in
+    record { sfits = c.signed_width-arg-1.given } in
     let minutes = minutes_count (fits) c.signed_width.ensures.0 in
     record {
       is = omega (arith, term_length c.args.load_literals.now c.args.minutes.now c.args.place, minutes, c.literal_length.ensures.is);
