@@ -7,14 +7,14 @@
 # make test                    proves everything from nothing and runs all tests
 # make cross [SEED= COUNT=]    library and program against solvers in Rust
 # make bench [QUICK=1]         times of the C calls against a fast version in Rust
-# make clean                   removes what was built; what was proved stays, in target/
+# make clean                   removes what was built; what was proved stays, in crates/*/out/
 # make help                    these lines
 BOOK ?= examples/contact.book
 PREFIX ?= /usr/local
 CFLAGS ?= -O2
 CARGO = cargo --quiet --offline
 CROSS = --release --manifest-path cross/Cargo.toml --target-dir build/cross
-SOURCES := $(shell find crates -name '*.rt' -o -name '*.antt') crates.txt
+SOURCES := $(shell find crates -name out -prune -o \( -name '*.rt' -o -name '*.antt' \) -print) crates.txt
 VERSION := $(shell sed -n 's/^.define BATTENPLUM_VERSION "\(.*\)"/\1/p' include/battenplum.h)
 SHARED = libbattenplum.so.$(VERSION)
 
@@ -22,7 +22,7 @@ SHARED = libbattenplum.so.$(VERSION)
 export BOOK PREFIX DESTDIR CC
 
 .PHONY: run lib all examples install uninstall cross bench test clean help cargo
-# Two runs of `rt` at a time would spoil each other's files.
+# Two runs of `rt` at a time would wait for each other.
 .NOTPARALLEL:
 
 run: build/battenplum
@@ -40,7 +40,7 @@ build/battenplum: $(SOURCES)
 
 build/libbattenplum.a: $(SOURCES)
 	@tools/need rt cc
-	@tools/prove capi $@
+	@tools/prove capi_c $@
 
 build/battenplum.h: include/battenplum.h
 	@mkdir -p build

@@ -1,8 +1,7 @@
 -- Laws of reading: how the judgement of a text and the walk over it make the answer, and what they leave in the tables.
 -- Assumes nothing.
 use Prim.Native.Nat.{ℕ}
-use mathlib.Core.Path.{◌≡◌, refl, sym, ap, ◌∙◌}
-use mathlib.Core.Bool.{true, false≢true}
+use mathlib.Core.Path.{◌≡◌, sym, ap, ◌∙◌}
 use mathlib.Core.List.{List}
 use Rattle.tables.specs.declared.Fault.{Fault}
 use Rattle.judging.specs.declared.reached.Reached.{Reached}

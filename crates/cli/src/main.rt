@@ -7,7 +7,8 @@ ghost use Rattle.std.specs.Prelude.{◌≤◌, length, IfOk};
 use page::PAGE_SIZE;
 use report::report;
 use std::io;
-use std::io::{Read, Stdin};
+use std::io::{ErrorKind, Read, Stdin};
+use std::process::ExitCode;
 use tables::sizes::MAX_BYTES;
 
 // One byte more than a text may have, so that a longer one is seen to be too long.
@@ -35,16 +36,34 @@ fn read_input(input: Stdin, text: &mut [u8]) -> io::Result<usize>
     Ok(length)
 }
 
-fn main(rt: HostRuntime) -> io::Result<()> {
+// What a shell answers for a program that writes to a pipe which nobody reads: 128 and the number of SIGPIPE.
+const PIPE_CLOSED: u8 = 141;
+
+// Tells on standard error what went wrong; nobody is left to tell where that fails too.
+fn tell(rt: &impl Eprint, stream: &str, error: io::Error) {
+    match eprintln!(rt; "battenplum: {stream}: {error}") {
+        Ok(()) | Err(_) => {}
+    }
+}
+
+// Trouble with input or output is told, and has no status of its own.
+fn main(rt: HostRuntime) -> ExitCode {
     let mut text = [0u8; TEXT_SIZE];
     let mut page = [0u8; PAGE_SIZE];
     let length = match read_input(rt.stdin(), &mut text) {
         Ok(length) => length,
-        Err(error) => return eprintln!(rt; "battenplum: standard input: {error}"),
+        Err(error) => {
+            tell(&rt, "standard input", error);
+            return ExitCode::SUCCESS;
+        }
     };
     let printed = report(&text[0..length], &mut page);
     match rt.write_all(&page[0..printed]) {
-        Ok(()) => Ok(()),
-        Err(error) => eprintln!(rt; "battenplum: standard output: {error}"),
+        Ok(()) => ExitCode::SUCCESS,
+        Err(error) if error.kind() == ErrorKind::BrokenPipe => ExitCode::from(PIPE_CLOSED),
+        Err(error) => {
+            tell(&rt, "standard output", error);
+            ExitCode::SUCCESS
+        }
     }
 }

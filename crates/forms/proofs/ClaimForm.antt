@@ -1,6 +1,6 @@
 -- `(claim (V K ..) ..)`: a list that is missing refuses the form, and so does a pair without a level for each group; else the list completes it.
 -- Assumes nothing.
-use Prim.Native.Nat.{ℕ, ◌-◌}
+use Prim.Native.Nat.{ℕ}
 use mathlib.Core.Path.{◌≡◌, refl, sym, ◌∙◌}
 use mathlib.Core.Bool.{Bool, true, false, ◌&&◌}
 use mathlib.Core.List.{List}

@@ -1,6 +1,6 @@
 -- `(clause L ..)`: a list that is missing refuses the form, and the list completes it.
 -- Assumes nothing.
-use Prim.Native.Nat.{ℕ, ◌-◌}
+use Prim.Native.Nat.{ℕ}
 use mathlib.Core.Path.{◌≡◌}
 use mathlib.Core.Bool.{Bool, true, and-true}
 use mathlib.Core.List.{List}

@@ -1,10 +1,10 @@
 -- Laws of entries set in a table one after the other, and of a table that is its used part and beyond it what it held.
 -- Assumes nothing.
 use Prim.Native.Nat.{ℕ, suc, ◌+◌, ◌≤◌, ◌<◌}
-use mathlib.Core.Path.{◌≡◌, refl, sym, ap, ◌∙◌}
-use mathlib.Core.List.{List, [], ◌∷◌, ◌++◌, append-nil}
+use mathlib.Core.Path.{◌≡◌, refl, ap, ◌∙◌}
+use mathlib.Core.List.{List, [], ◌∷◌, append-nil}
 use native.Mathlib.Omega.{arith}
-use lib.ListN.{length, take, drop, set, length-append, length-drop}
+use lib.ListN.{length, take, set, length-append, length-drop}
 use lib.Seq.{sets, sets-eq, take_at, drop-nil, set-set, set_comm}
 use Rattle.forms.specs.Contents.{over}
 

@@ -15,7 +15,7 @@ use Rattle.wellfounded.proofs.Tests.{decided, clash, both, first, second}
 use Rattle.wellfounded.proofs.Lists.{any_below_use, any_below_make}
 use Rattle.wellfounded.proofs.Literals.{false_test, value_at_lem}
 use Rattle.tables.specs.Rows.{rule_count, rule_head}
-use Rattle.propagation.specs.internal.Queues.{decide_as, undecided, Pushable, Pushes}
+use Rattle.propagation.specs.internal.Queues.{decide_as, Pushable, Pushes}
 use Rattle.propagation.specs.internal.Counts.{is_ready, ready_by, Settled, Propagated, Steady, RowLowered, true_literal}
 use Rattle.propagation.proofs.QueueLaws.{decide_length, decide_keeps, decide_none, decided_passes, decide_twice, keeps_grows, queued_none, queued_both, put_decides, pushed_queued}
 

@@ -13,7 +13,7 @@ use lib.Seq.{get_or-set_same, get_or-set_other, get_or-drop}
 use borrow.Author.Tests.{eqb-true, eq-eqb, ne_eqb, not-true}
 use Rattle.wellfounded.specs.Lists.{any_below, sum_below}
 use Rattle.wellfounded.specs.Literals.{is_true, is_false, is_held, value_at, atom_of, is_negated}
-use Rattle.wellfounded.proofs.Tests.{decided, clash, both, first, second, either, or_left, or_right, same_test}
+use Rattle.wellfounded.proofs.Tests.{clash, both, first, second, either, or_left, or_right, same_test}
 use Rattle.wellfounded.proofs.Lists.{le_or_lt, any_below_use, any_below_make}
 use Rattle.wellfounded.proofs.Sums.{sum_more, sum_same}
 use Rattle.wellfounded.proofs.Scan.{part_is}
@@ -21,7 +21,7 @@ use Rattle.wellfounded.proofs.Literals.{true_test, false_test, value_at_lem}
 use Rattle.tables.specs.Rows.{rule_count, rule_head, rule_start, rule_size}
 use Rattle.tables.specs.internal.Fields.{Field}
 use Rattle.tables.specs.internal.Scans.{RulesScannable}
-use Rattle.propagation.specs.internal.Queues.{decide_as, undecided, Queued, Pushable, Pushes}
+use Rattle.propagation.specs.internal.Queues.{decide_as, Queued, Pushable, Pushes}
 use Rattle.propagation.specs.internal.Counts.{is_ready, ready_by}
 use Rattle.propagation.specs.internal.Lacking.{is_lacking, TellsLacking, lacking_in, Summable, Startable, RowCounted, Started}
 use Rattle.propagation.proofs.QueueLaws.{undecided_most, decide_length, decide_keeps, decide_none, decide_same, decide_twice, decided_passes, keeps_grows, queued_none, queued_both, put_decides, pushed_queued}

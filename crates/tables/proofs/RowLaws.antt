@@ -1,7 +1,7 @@
 -- The definition that a group's rows make, with the marks, has what `HasRowsOf` says. Only the first laws know how `definition_of` makes it;
 -- everything else speaks of any definition that has the rows.
 -- Assumes nothing.
-use Prim.Native.Nat.{ℕ, suc, ◌≤◌, ◌<◌}
+use Prim.Native.Nat.{ℕ, suc, ◌<◌}
 use mathlib.Core.Path.{◌≡◌, refl, sym, ap, ◌∙◌}
 use mathlib.Core.Logic.{◌↔◌, ◌⊎◌, inl, inr, ⊎_elim}
 use mathlib.Core.Bool.{Bool, true, false, ◌&&◌}

@@ -1,5 +1,4 @@
 -- `booktext::read` meets its contract: a text is judged first, and one that passes is walked over once more and fills the tables.
-use borrow.Author.Rules.{rules}
 use Rattle.judging.specs.LentTables.{space_with}
 use Rattle.forms.specs.Contents.{lent_tables}
 use Rattle.booktext.specs.Answers.{space_of}

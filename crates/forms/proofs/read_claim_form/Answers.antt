@@ -19,7 +19,7 @@ use Rattle.forms.proofs.read_claim_form.Goals as goal
 
 pub read_pairs-requires : goal.read_pairs-requires
 read_pairs-requires c = let some = groups_some c.args.reached in
-    (c.requires.inside, rw c.groups_reached-groups.ensures (some.0, some.1, c.requires.size_le_max_atoms))
+    record { inside = c.requires.inside; le_groups = rw c.groups_reached-groups.ensures (some.0, some.1, c.requires.size_le_max_atoms) }
 
 pub returns-in_default : goal.returns-in_default
 returns-in_default c =

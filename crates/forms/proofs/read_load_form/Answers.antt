@@ -64,7 +64,7 @@ read_terms-requires c =
     let upper : signed_at c.args.text.now (c.in-Whole.after + 1) ≡ Whole c.in-Whole-read_signed.high c.in-Whole-read_signed.next =
     sym c.read_signed-2.ensures ∙ c.in-Whole-read_signed.is in
     let n = signed_after _ _ (again) (upper) in
-    (record { reached = n.2.inside; short = c.requires.inside.short }, (counts_within_lem _ c.requires.reached_value).terms)
+    record { inside = record { reached = n.2.inside; short = c.requires.inside.short }; from_le_max_terms = (counts_within_lem _ c.requires.reached_value).terms }
 
 pub returns-in_default-read_terms : goal.returns-in_default-read_terms
 returns-in_default-read_terms c =

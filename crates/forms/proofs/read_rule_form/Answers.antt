@@ -4,7 +4,6 @@ use mathlib.Core.Path.{◌≡◌, sym, ◌∙◌}
 use mathlib.Core.Bool.{true}
 use mathlib.Core.List.{[], ◌∷◌}
 use native.Mathlib.Omega.{arith}
-use borrow.Author.Rules.{rules}
 use Rattle.numerals.specs.declared.numbers.Number.TheVariants.{Read}
 use Rattle.format.specs.Forms.{literal_bytes}
 use Rattle.format.specs.Words.{word_at}
@@ -35,7 +34,7 @@ read_literals-requires c =
     let headed : number_at c.args.text.now (c.args.at + 1) ≡ Read c.in-Read.head c.in-Read.next =
     sym c.read_number.ensures ∙ c.in-Read.is in
     let n = number_after _ _ (spaced) (headed) in
-    (record { reached = n.2.inside; short = c.requires.inside.short }, (counts_within_lem _ c.requires.reached_value).literals)
+    record { inside = record { reached = n.2.inside; short = c.requires.inside.short }; from_le_max_literals = (counts_within_lem _ c.requires.reached_value).literals }
 
 pub returns-in_default-read_literals : goal.returns-in_default-read_literals
 returns-in_default-read_literals c =

@@ -1,5 +1,4 @@
 -- `lines::walk` meets its contract: at each line the rest of the text is judged as the whole is, and storing its forms stores all.
-use borrow.Author.Rules.{rules}
 use Prim.Native.Nat.{◌-◌}
 use lib.ListN.{length}
 use Rattle.forms.specs.Contents.{lent_tables}

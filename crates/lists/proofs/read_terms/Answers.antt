@@ -1,5 +1,5 @@
 -- `lists::read_terms` meets its contract: the terms read so far are stored, and the rest are read where the loop has come to.
-use Prim.Native.Nat.{◌+◌, ◌-◌}
+use Prim.Native.Nat.{◌+◌}
 use mathlib.Core.Path.{◌≡◌, sym, ◌∙◌}
 use mathlib.Core.Bool.{true}
 use mathlib.Core.List.{[], ◌∷◌}

@@ -1,5 +1,4 @@
 -- `format::words::word_at` meets its contract: the bytes before `place` agree, so the rest of the word decides.
-use Prim.Native.Nat.{◌-◌}
 use mathlib.Core.Path.{sym}
 use native.Mathlib.Omega.{arith}
 use borrow.Author.Rules.{rules}

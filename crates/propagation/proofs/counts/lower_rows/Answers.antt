@@ -1,5 +1,4 @@
 -- `propagation::counts::lower_rows` meets its contract: before each entry the rows at those before it have been lowered.
-use Prim.Native.Nat.{◌-◌}
 use native.Mathlib.Omega.{arith}
 use Rattle.propagation.proofs.FallLaws.{rows_start, rows_next, rows_turn, rows_end, values_long_lem}
 use Rattle.propagation.proofs.counts.lower_rows.Goals as goal

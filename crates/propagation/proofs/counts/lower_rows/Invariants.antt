@@ -1,6 +1,5 @@
 -- `propagation::counts::lower_rows` meets its contract: before each entry the rows at those before it have been lowered.
 use Prim.Native.Nat.{◌-◌, ◌≤◌}
-use borrow.Author.Rules.{rules}
 use Rattle.propagation.specs.internal.Counts.{RowsLowered}
 use Rattle.propagation.proofs.counts.lower_rows.Given as goal
 

@@ -1,6 +1,5 @@
 -- `propagation::counts::propagate` meets its contract: before each atom of the part those before it have been propagated.
 use Prim.Native.Nat.{◌-◌, ◌≤◌}
-use borrow.Author.Rules.{rules}
 use Rattle.propagation.specs.internal.Counts.{PartPropagated}
 use Rattle.propagation.proofs.counts.propagate.Given as goal
 

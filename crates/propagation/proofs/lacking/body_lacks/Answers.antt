@@ -1,5 +1,5 @@
 -- `propagation::lacking::body_lacks` meets its contract: the literals passed are in the total.
-use Prim.Native.Nat.{◌-◌, ◌≤◌}
+use Prim.Native.Nat.{◌≤◌}
 use lib.ListN.{get_or}
 use native.Mathlib.Omega.{arith}
 use Rattle.propagation.proofs.LackingLaws.{adding_start, adding_turn, adding_end}

@@ -1,5 +1,4 @@
 -- `propagation::lacking::count_lacks` meets its contract: the rows passed are counted, and their heads decided.
-use Prim.Native.Nat.{◌-◌}
 use Rattle.propagation.proofs.LackingLaws.{counted_start, counted_next, counted_turn, counted_end, counted_long}
 use Rattle.propagation.proofs.lacking.count_lacks.Goals as goal
 

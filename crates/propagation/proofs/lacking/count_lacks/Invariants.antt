@@ -1,6 +1,5 @@
 -- `propagation::lacking::count_lacks` meets its contract: the rows passed are counted, and their heads decided.
 use Prim.Native.Nat.{◌-◌}
-use borrow.Author.Rules.{rules}
 use Rattle.propagation.proofs.LackingLaws.{CountedBelow}
 use Rattle.propagation.proofs.lacking.count_lacks.Given as goal
 

@@ -1,5 +1,4 @@
 -- `propagation::lacking::lack_literals` meets its contract: the table tells of the literals of the atoms passed.
-use Prim.Native.Nat.{◌-◌}
 use lib.ListN.{length-set}
 use native.Mathlib.Omega.{arith}
 use Rattle.propagation.proofs.LackingLaws.{tells_start, tells_turn, tells_end}

@@ -1,5 +1,4 @@
 -- `tables::entries::clear` meets its contract: the entries passed are 0.
-use Prim.Native.Nat.{◌-◌}
 use mathlib.Core.Path.{refl, ◌∙◌}
 use native.Mathlib.Omega.{arith}
 use Rattle.wellfounded.proofs.InPlace.{written_start, written_turn, written_end}

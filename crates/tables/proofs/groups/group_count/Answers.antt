@@ -1,5 +1,4 @@
 -- `tables::groups::group_count` meets its contract: `high` is the highest group of the rows passed.
-use Prim.Native.Nat.{◌-◌}
 use native.Mathlib.Omega.{arith}
 use Rattle.tables.proofs.GroupLaws.{highest_start, highest_raise, highest_keep, highest_end}
 use Rattle.tables.proofs.groups.group_count.Goals as goal

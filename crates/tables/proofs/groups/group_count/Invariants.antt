@@ -1,6 +1,5 @@
 -- `tables::groups::group_count` meets its contract: `high` is the highest group of the rows passed.
 use Prim.Native.Nat.{◌-◌}
-use borrow.Author.Rules.{rules}
 use Rattle.tables.specs.Rows.{rule_group}
 use Rattle.tables.proofs.GroupLaws.{Highest}
 use Rattle.tables.proofs.groups.group_count.Given as goal

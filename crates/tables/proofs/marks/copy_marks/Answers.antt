@@ -1,5 +1,4 @@
 -- `tables::marks::copy_marks` meets its contract: the atoms passed have the marks that are copied.
-use Prim.Native.Nat.{◌-◌}
 use mathlib.Core.Path.{refl}
 use native.Mathlib.Omega.{arith}
 use Rattle.wellfounded.proofs.InPlace.{written_start, written_turn}

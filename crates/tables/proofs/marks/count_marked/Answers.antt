@@ -1,5 +1,4 @@
 -- `tables::marks::count_marked` meets its contract: the number is that of the marked atoms among those passed.
-use Prim.Native.Nat.{◌-◌}
 use mathlib.Core.Path.{◌≡◌, refl, ◌∙◌}
 use native.Mathlib.Omega.{arith}
 use borrow.Author.Tests.{eq-eqb, ne_eqb}

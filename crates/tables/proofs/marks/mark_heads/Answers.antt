@@ -1,5 +1,4 @@
 -- `tables::marks::mark_heads` meets its contract: the marks are those of the entry with the heads of the group's rows among those passed put on.
-use Prim.Native.Nat.{◌-◌}
 use mathlib.Core.Path.{sym, ◌∙◌}
 use native.Mathlib.Omega.{arith}
 use borrow.Author.Tests.{eq-eqb, ne_eqb}

@@ -2,7 +2,6 @@
 use Prim.Native.Nat.{◌-◌, ◌≤◌}
 use mathlib.Core.Bool.{◌&&◌}
 use lib.Dec.{eqb}
-use borrow.Author.Rules.{rules}
 use Rattle.tables.specs.Rows.{rule_head, in_group}
 use Rattle.tables.proofs.MarkLaws.{Marked}
 use Rattle.tables.proofs.marks.mark_heads.Given as goal

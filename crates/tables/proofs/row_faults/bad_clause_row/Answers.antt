@@ -1,5 +1,4 @@
 -- `tables::row_faults::bad_clause_row` meets its contract: no row before `row` is bad.
-use Prim.Native.Nat.{◌-◌}
 use mathlib.Core.Path.{sym, ◌∙◌}
 use native.Mathlib.Omega.{arith}
 use Rattle.tables.proofs.Faults.{search_start, search_turn, search_stop, search_end}

@@ -1,5 +1,4 @@
 -- `tables::row_faults::bad_load_row` meets its contract: no row before `row` is bad.
-use Prim.Native.Nat.{◌-◌}
 use mathlib.Core.Path.{sym, ap, ◌∙◌}
 use mathlib.Core.Bool.{not}
 use native.Mathlib.Omega.{arith}

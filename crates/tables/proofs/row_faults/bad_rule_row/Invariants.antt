@@ -1,6 +1,5 @@
 -- `tables::row_faults::bad_rule_row` meets its contract: no row before `row` is bad.
 use Prim.Native.Nat.{◌-◌}
-use borrow.Author.Rules.{rules}
 use Rattle.tables.specs.Rows.{rule_count}
 use Rattle.tables.specs.Sound.{bad_rule_row}
 use Rattle.tables.proofs.Faults.{Searched}

@@ -1,6 +1,5 @@
 -- `tables::totals::rules_total` meets its contract: the sizes of the rows passed are in the total.
 use Prim.Native.Nat.{◌-◌}
-use borrow.Author.Rules.{rules}
 use Rattle.tables.specs.Rows.{rule_size}
 use Rattle.tables.proofs.TotalLaws.{Summing}
 use Rattle.tables.proofs.totals.rules_total.Given as goal

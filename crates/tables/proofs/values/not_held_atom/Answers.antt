@@ -1,5 +1,4 @@
 -- `tables::values::not_held_atom` meets its contract: the highest entry is 0 or 1, so that each is; or below `atom` no entry fails.
-use Prim.Native.Nat.{◌-◌}
 use mathlib.Core.Path.{sym, ◌∙◌}
 use native.Mathlib.Omega.{arith}
 use borrow.Author.Tests.{lt-ltb, le-ltb}
