@@ -4,11 +4,8 @@ use lib.ListN.{length}
 use Rattle.writing.proofs.PartLaws.{pair_length}
 use Rattle.writing.proofs.lengths.pair_length.Goals as goal
 
-pub overflow_cast-values : goal.overflow_cast-values
-overflow_cast-values c = omega (arith, c.shared_slice_known-3-1.given c.args.atom)
-
 pub width-requires : goal.width-requires
-width-requires c = omega (arith, c.shared_slice_known-3-1.given c.args.atom)
+width-requires c = omega (arith, c.type_inv.values c.args.atom)
 
 pub returns : goal.returns
 returns c = record {

@@ -15,14 +15,11 @@ put-opened-requires c =
     pair_length (length c.args.values.now) c.args.groups c.args.values.now c.args.levels.now c.args.atom in
     omega (arith, long)
 
-pub overflow_cast-values : goal.overflow_cast-values
-overflow_cast-values c = omega (arith, c.shared_slice_known-3-1.given c.args.atom)
-
 pub put_decimal-valued-requires : goal.put_decimal-valued-requires
 put_decimal-valued-requires c =
     let long : let n = length c.args.values.now in length (pair_part n c.args.groups c.args.values.now c.args.levels.now c.args.atom) ≡ 3 + (length (decimal (get_or c.args.values.now c.args.atom 0)) + length (join_below c.args.groups (level_part n c.args.levels.now c.args.atom))) =
     pair_length (length c.args.values.now) c.args.groups c.args.values.now c.args.levels.now c.args.atom in
-    (omega (arith, c.shared_slice_known-3-1.given c.args.atom), omega (arith, long, c.put-opened.ensures.answered))
+    (omega (arith, c.type_inv.values c.args.atom), omega (arith, long, c.put-opened.ensures.answered))
 
 pub put_levels-levelled-requires : goal.put_levels-levelled-requires
 put_levels-levelled-requires c =
