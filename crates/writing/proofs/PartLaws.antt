@@ -198,7 +198,7 @@ puts_odd literal n p q t = rw (odd_bytes literal n) (puts_behind (space ∷ not_
 
 -- Minutes, which the code widens before it puts them.
 widened : {z : ℤ} → SFits w16 z → to_z w32 (of_z w32 (to_z w16 (of_z w16 z))) ≡ z
-widened fits = rw (to_z-of_z fits) (to_z-of_z (sfits_widen tt fits))
+widened {z} fits = rw (to_z-of_z fits) (to_z-of_z {w = w32} {z = z} (sfits_widen tt fits))
 
 minutes_most : (z : ℤ) → SFits w16 z → nat_abs z ≤ max_printed
 minutes_most (pos n) fits = omega arith

@@ -9,23 +9,11 @@ use Rattle.page.proofs.put_lines.Goals as goal
 pub loop-place-init : goal.loop-place-init
 loop-place-init c = (omega arith, joined_start _ _ _)
 
-pub overflow_cast-atom : goal.overflow_cast-atom
-overflow_cast-atom c = omega (arith, c.shared_slice_known-in-loop-place-1.given c.loop-place.place)
-
 pub bounds-values-atom : goal.bounds-values-atom
 bounds-values-atom c = omega (arith, c.requires.listable.paired.even, c.requires.listable.within c.loop-place.place (omega arith))
 
-pub overflow_cast-values : goal.overflow_cast-values
-overflow_cast-values c = omega (arith, c.shared_slice_known-in-loop-place-2-1.given (get_or c.args.atoms.now c.loop-place.place 0))
-
-pub offset_bounds-levels-atom : goal.offset_bounds-levels-atom
-offset_bounds-levels-atom c = omega (arith, c.shared_slice_known-in-loop-place-1.given c.loop-place.place)
-
 pub bounds-levels-atom : goal.bounds-levels-atom
 bounds-levels-atom c = c.requires.listable.within c.loop-place.place (omega arith)
-
-pub overflow_cast-levels : goal.overflow_cast-levels
-overflow_cast-levels c = omega (arith, c.shared_slice_known-in-loop-place-3-1.given (get_or c.args.atoms.now c.loop-place.place 0))
 
 pub put_atom-next-requires : goal.put_atom-next-requires
 put_atom-next-requires c = let place = c.loop-place.place in
@@ -33,8 +21,8 @@ put_atom-next-requires c = let place = c.loop-place.place in
     record {
       atom_le_max_position = (
         omega (arith, c.requires.listable.paired.few, c.requires.listable.within place (omega arith)),
-        omega (arith, c.shared_slice_known-in-loop-place-2-1.given atom),
-        omega (arith, c.shared_slice_known-in-loop-place-3-1.given atom),
+        omega (arith, c.type_inv.values atom),
+        omega (arith, c.type_inv.levels atom),
       );
       level_in_bounds = joined_fits _ _ _ _ _ _ _ (omega arith) (rw (lines_placed c.args.values.now c.args.levels.now c.args.atoms.now) at c.requires.atoms_in_bounds) c.loop-place.invariant.1;
     }

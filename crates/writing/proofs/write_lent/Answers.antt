@@ -5,7 +5,6 @@ use mathlib.Core.Bool.{true}
 use mathlib.Core.List.{[], ◌∷◌}
 use native.Mathlib.Omega.{arith}
 use lib.ListN.{length}
-use borrow.Author.Rules.{rules}
 use Rattle.tables.specs.Faults.{first_fault}
 use Rattle.tables.specs.Sound.{Tables, lent, mark_test}
 use Rattle.tables.proofs.SoundTables.{sound_sizes}
@@ -20,7 +19,7 @@ pub rows_fit-fit-requires : goal.rows_fit-fit-requires
 unfolding lent
 rows_fit-fit-requires c =
     let given : Tables =
-        lent (length c.args.values.now) c.args.rules.now c.args.literals.now c.args.clauses.now c.args.loads.now c.args.load_literals.now c.args.minutes.now c.args.marks.now in
+    lent (length c.args.values.now) c.args.rules.now c.args.literals.now c.args.clauses.now c.args.loads.now c.args.load_literals.now c.args.minutes.now c.args.marks.now in
     let sizes = sound_sizes (given) c.requires.none in
     (omega (arith, sizes.few_rules), omega (arith, sizes.few_clauses), omega (arith, sizes.few_loads))
 
@@ -28,23 +27,23 @@ pub returns-in-Refused : goal.returns-in-Refused
 unfolding lent
 returns-in-Refused c =
     let given : Tables =
-        lent (length c.args.values.now) c.args.rules.now c.args.literals.now c.args.clauses.now c.args.loads.now c.args.load_literals.now c.args.minutes.now c.args.marks.now in
+    lent (length c.args.values.now) c.args.rules.now c.args.literals.now c.args.clauses.now c.args.loads.now c.args.load_literals.now c.args.minutes.now c.args.marks.now in
     refused_writes _ _ (early_refuses (given) (text_test (given) c.args.values.now c.args.levels.now (length c.args.text.now)) c.requires.marked _ _ _ _ _ c.not_held_atom-mark.ensures (λ unfit. rows_refuse (given) _ _ _ (sym c.rows_fit-fit.ensures ∙ unfit)) (sym c.first_refusal-early.ensures ∙ c.in-Refused.is)) c.refused.ensures
 
 pub book_length-length-requires : goal.book_length-length-requires
 unfolding lent
 book_length-length-requires c =
     let given : Tables =
-        lent (length c.args.values.now) c.args.rules.now c.args.literals.now c.args.clauses.now c.args.loads.now c.args.load_literals.now c.args.minutes.now c.args.marks.now in
+    lent (length c.args.values.now) c.args.rules.now c.args.literals.now c.args.clauses.now c.args.loads.now c.args.load_literals.now c.args.minutes.now c.args.marks.now in
     record { puttable = puttable (given) _ _ c.requires; short = short (given) _ _ c.requires }
 
 pub returns-then-not-bytes_fit : goal.returns-then-not-bytes_fit
 unfolding lent
 returns-then-not-bytes_fit c =
     let given : Tables =
-        lent (length c.args.values.now) c.args.rules.now c.args.literals.now c.args.clauses.now c.args.loads.now c.args.load_literals.now c.args.minutes.now c.args.marks.now in
+    lent (length c.args.values.now) c.args.rules.now c.args.literals.now c.args.clauses.now c.args.loads.now c.args.load_literals.now c.args.minutes.now c.args.marks.now in
     let early-passed : let t = given in let text = text_test t c.args.values.now c.args.levels.now (length c.args.text.now) in (first_fault (mark_test t ∷ text ∷ []) ≡ first_fault (text ∷ [])) × (rows_fit c.args.rules.now c.args.clauses.now c.args.loads.now ≡ true) =
-        let left = early_leaves (given) (text_test (given) c.args.values.now c.args.levels.now (length c.args.text.now)) c.requires.marked _ _ _ c.not_held_atom-mark.ensures (sym c.first_refusal-early.ensures ∙ c.in_default.is) in
+    let left = early_leaves (given) (text_test (given) c.args.values.now c.args.levels.now (length c.args.text.now)) c.requires.marked _ _ _ c.not_held_atom-mark.ensures (sym c.first_refusal-early.ensures ∙ c.in_default.is) in
     (left.0, sym c.rows_fit-fit.ensures ∙ left.1) in
     refused_writes _ _ ((early-passed).0 ∙ bytes_refuse (given) _ _ _ (rw c.book_length-length.ensures at (sym c.bytes_fit.ensures) ∙ c.if-not-bytes_fit.true)) c.refused-then-not-bytes_fit.ensures
 
@@ -52,20 +51,20 @@ pub put_book-requires : goal.put_book-requires
 unfolding lent
 put_book-requires c =
     let given : Tables =
-        lent (length c.args.values.now) c.args.rules.now c.args.literals.now c.args.clauses.now c.args.loads.now c.args.load_literals.now c.args.minutes.now c.args.marks.now in
+    lent (length c.args.values.now) c.args.rules.now c.args.literals.now c.args.clauses.now c.args.loads.now c.args.load_literals.now c.args.minutes.now c.args.marks.now in
     let bytes-fitted : bytes_fit (length (text_of (given) c.args.values.now c.args.levels.now)) (length c.args.text.now) ≡ true =
-        rw c.book_length-length.ensures at (sym c.bytes_fit.ensures) ∙ c.if-not-bytes_fit.false in
+    rw c.book_length-length.ensures at (sym c.bytes_fit.ensures) ∙ c.if-not-bytes_fit.false in
     record { puttable = puttable (given) _ _ c.requires; levels_in_bounds = bytes_within (given) _ _ _ (bytes-fitted) }
 
 pub returns : goal.returns
 unfolding lent
 returns c =
     let given : Tables =
-        lent (length c.args.values.now) c.args.rules.now c.args.literals.now c.args.clauses.now c.args.loads.now c.args.load_literals.now c.args.minutes.now c.args.marks.now in
+    lent (length c.args.values.now) c.args.rules.now c.args.literals.now c.args.clauses.now c.args.loads.now c.args.load_literals.now c.args.minutes.now c.args.marks.now in
     let bytes-fitted : bytes_fit (length (text_of (given) c.args.values.now c.args.levels.now)) (length c.args.text.now) ≡ true =
-        rw c.book_length-length.ensures at (sym c.bytes_fit.ensures) ∙ c.if-not-bytes_fit.false in
+    rw c.book_length-length.ensures at (sym c.bytes_fit.ensures) ∙ c.if-not-bytes_fit.false in
     let early-passed : let t = given in let text = text_test t c.args.values.now c.args.levels.now (length c.args.text.now) in (first_fault (mark_test t ∷ text ∷ []) ≡ first_fault (text ∷ [])) × (rows_fit c.args.rules.now c.args.clauses.now c.args.loads.now ≡ true) =
-        let left = early_leaves (given) (text_test (given) c.args.values.now c.args.levels.now (length c.args.text.now)) c.requires.marked _ _ _ c.not_held_atom-mark.ensures (sym c.first_refusal-early.ensures ∙ c.in_default.is) in
+    let left = early_leaves (given) (text_test (given) c.args.values.now c.args.levels.now (length c.args.text.now)) c.requires.marked _ _ _ c.not_held_atom-mark.ensures (sym c.first_refusal-early.ensures ∙ c.in_default.is) in
     (left.0, sym c.rows_fit-fit.ensures ∙ left.1) in
     let fit = bytes-fitted in
     let early = early-passed in

@@ -10,10 +10,10 @@ pub level_in_range-requires : goal.level_in_range-requires
 level_in_range-requires c = (omega arith, omega arith)
 
 pub returns-then-not-level_in_range : goal.returns-then-not-level_in_range
-returns-then-not-level_in_range c = search_stop (omega arith) (rw (← c.level_in_range.ensures) c.if-not-level_in_range.true-raw) c.loop-atom.invariant
+returns-then-not-level_in_range c = search_stop (omega arith) (rw (← c.level_in_range.ensures, c.if-not-level_in_range.true)) c.loop-atom.invariant
 
 pub loop-atom-preserved : goal.loop-atom-preserved
-loop-atom-preserved c = search_turn (omega arith) (rw (← c.level_in_range.ensures) c.if-not-level_in_range.false-raw) c.loop-atom.invariant
+loop-atom-preserved c = search_turn (omega arith) (rw (← c.level_in_range.ensures, c.if-not-level_in_range.false)) c.loop-atom.invariant
 
 pub returns : goal.returns
 returns c = search_end (omega arith) c.loop-atom.invariant

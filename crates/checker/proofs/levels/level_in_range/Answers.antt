@@ -1,13 +1,9 @@
 -- `checker::levels::level_in_range` meets its contract: each branch's test is a part of `level_fits`.
-use native.Mathlib.Omega.{arith}
 use borrow.Author.Tests.{le-leb, lt-leb, eq-eqb, ne_eqb}
 use Rattle.wellfounded.specs.Levels.{level_at}
 use Rattle.tables.specs.internal.Marks.{is_marked}
 use Rattle.checker.specs.internal.Scans.{level_fits}
 use Rattle.checker.proofs.levels.level_in_range.Goals as goal
-
-pub overflow_cast-result : goal.overflow_cast-result
-overflow_cast-result c = omega (arith, c.shared_slice_known-1.given c.args.atom)
 
 pub returns-then-level-ge1 : goal.returns-then-level-ge1
 unfolding is_marked level_at level_fits

@@ -1,6 +1,4 @@
 -- `satisfaction::loads::failing_load` meets its contract: no row before `row` fails.
-use mathlib.Core.Path.{sym, ap, ◌∙◌}
-use mathlib.Core.Bool.{not}
 use native.Mathlib.Omega.{arith}
 use Rattle.satisfaction.specs.Satisfied.{failing_load}
 use Rattle.tables.proofs.Faults.{search_start, search_turn, search_stop, search_end}
@@ -14,11 +12,11 @@ load_holds-requires c = (omega arith, c.requires)
 
 pub returns-then-not-load_holds : goal.returns-then-not-load_holds
 unfolding failing_load
-returns-then-not-load_holds c = search_stop (omega arith) (ap not (sym c.load_holds.ensures) ∙ c.if-not-load_holds.true-raw) c.loop-row.invariant
+returns-then-not-load_holds c = search_stop (omega arith) (rw (← c.load_holds.ensures, c.if-not-load_holds.true)) c.loop-row.invariant
 
 pub loop-row-preserved : goal.loop-row-preserved
 unfolding failing_load
-loop-row-preserved c = search_turn (omega arith) (ap not (sym c.load_holds.ensures) ∙ c.if-not-load_holds.false-raw) c.loop-row.invariant
+loop-row-preserved c = search_turn (omega arith) (rw (← c.load_holds.ensures, c.if-not-load_holds.false)) c.loop-row.invariant
 
 pub returns : goal.returns
 returns c = search_end (omega arith) c.loop-row.invariant

@@ -9,7 +9,10 @@ put-begun-requires c = omega (arith, parts_length (claim_parts (length c.args.va
 
 pub put_pairs-paired-requires : goal.put_pairs-paired-requires
 put_pairs-paired-requires c = let long = parts_length (claim_parts (length c.args.values.now) c.args.groups c.args.values.now c.args.levels.now) in
-    (c.requires.levels_len, omega (arith, c.requires.levels_in_bounds, c.put-begun.ensures.answered))
+    record {
+      levels_len = c.requires.levels_len;
+      levels_in_bounds = omega (arith, c.requires.levels_in_bounds, c.put-begun.ensures.answered);
+    }
 
 pub put-requires : goal.put-requires
 put-requires c = omega (arith, parts_length (claim_parts (length c.args.values.now) c.args.groups c.args.values.now c.args.levels.now))

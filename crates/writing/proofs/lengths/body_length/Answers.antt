@@ -11,6 +11,6 @@ overflow_add-result c = omega (arith, c.literals_length.ensures.few, c.requires.
 
 pub returns : goal.returns
 returns c = record {
-      is = omega (arith, c.literals_length.ensures.is, body_length c.args.literals.now c.args.start c.args.size c.requires.0);
-      few = omega (arith, c.literals_length.ensures.few, c.requires.1);
-    }
+  is = omega (arith, c.literals_length.ensures.is, body_length c.args.literals.now c.args.start c.args.size c.requires.0);
+  few = omega (arith, c.literals_length.ensures.few, c.requires.1);
+}

@@ -1,7 +1,6 @@
 -- `writing::lengths::book_length` meets its contract: the lines of the text.
 use native.Mathlib.Omega.{arith}
 use lib.ListN.{length}
-use borrow.Author.Rules.{rules}
 use Rattle.tables.specs.Sound.{Tables, lent}
 use Rattle.writing.proofs.TextLaws.{parts_length, atoms_parts, book_length}
 use Rattle.writing.proofs.lengths.book_length.Goals as goal
@@ -26,5 +25,5 @@ pub returns : goal.returns
 unfolding lent
 returns c =
     let given : Tables =
-        lent (length c.args.values.now) c.args.rules.now c.args.literals.now c.args.clauses.now c.args.loads.now c.args.load_literals.now c.args.minutes.now c.args.marks.now in
+    lent (length c.args.values.now) c.args.rules.now c.args.literals.now c.args.clauses.now c.args.loads.now c.args.load_literals.now c.args.minutes.now c.args.marks.now in
     omega (arith, book_length (given) c.args.values.now c.args.levels.now c.requires.puttable.marked, parts_length (atoms_parts (length c.args.values.now)), c.width-sized.ensures.0, c.defined_length-marked.ensures.is, c.rows_length-listed.ensures.is, c.claim_length.ensures.is)

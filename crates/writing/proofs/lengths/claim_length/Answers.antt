@@ -1,5 +1,4 @@
 -- `writing::lengths::claim_length` meets its contract: the pairs of the atoms passed are in the total, and the word and the line's end come to it.
-use Prim.Native.Nat.{◌-◌}
 use native.Mathlib.Omega.{arith}
 use lib.ListN.{length}
 use Rattle.writing.proofs.LengthLaws.{adding_start, adding_turn, adding_end}

@@ -1,5 +1,4 @@
 -- `writing::lengths::clauses_length` meets its contract: the lines of the rows passed are in the total.
-use Prim.Native.Nat.{◌-◌}
 use native.Mathlib.Omega.{arith}
 use Rattle.tables.specs.Rows.{clause_count}
 use Rattle.writing.proofs.RowLaws.{clauses_joined}

@@ -11,6 +11,6 @@ overflow_add-result c = omega (arith, c.terms_length.ensures.few, c.requires.2)
 
 pub returns : goal.returns
 returns c = record {
-      is = omega (arith, c.terms_length.ensures.is, terms_length c.args.load_literals.now c.args.minutes.now c.args.start c.args.size);
-      few = omega (arith, c.terms_length.ensures.few, c.requires.2);
-    }
+  is = omega (arith, c.terms_length.ensures.is, terms_length c.args.load_literals.now c.args.minutes.now c.args.start c.args.size);
+  few = omega (arith, c.terms_length.ensures.few, c.requires.2);
+}

@@ -1,5 +1,4 @@
 -- `writing::lengths::literals_length` meets its contract: the literals passed are in the total.
-use Prim.Native.Nat.{◌-◌}
 use native.Mathlib.Omega.{arith}
 use Rattle.writing.specs.internal.Parts.{literal_part}
 use Rattle.writing.proofs.LengthLaws.{adding_start, adding_turn, adding_end}

@@ -1,5 +1,4 @@
 -- `writing::lengths::loads_length` meets its contract: the lines of the rows passed are in the total.
-use Prim.Native.Nat.{◌-◌}
 use native.Mathlib.Omega.{arith}
 use Rattle.tables.specs.Loads.{load_count}
 use Rattle.writing.proofs.RowLaws.{loads_joined}
@@ -10,7 +9,10 @@ pub loop-row-init : goal.loop-row-init
 loop-row-init c = adding_start _ _ _
 
 pub load_length-total-requires : goal.load_length-total-requires
-load_length-total-requires c = (c.requires.loads_lie, (omega (arith, c.load_count-rows.ensures), c.requires.loads_len_bound.1))
+load_length-total-requires c = record {
+  loads_lie = c.requires.loads_lie;
+  row_bound = (omega (arith, c.load_count-rows.ensures), c.requires.loads_len_bound.1);
+}
 
 pub overflow_add-total : goal.overflow_add-total
 unfolding load_count

@@ -1,5 +1,4 @@
 -- `writing::lengths::marks_length` meets its contract: the marked atoms passed are in the total.
-use Prim.Native.Nat.{◌-◌}
 use native.Mathlib.Omega.{arith}
 use Rattle.writing.proofs.LengthLaws.{adding_start, adding_turn, adding_end}
 use Rattle.writing.proofs.lengths.marks_length.Goals as goal

@@ -4,20 +4,17 @@ use lib.ListN.{length}
 use Rattle.writing.proofs.PartLaws.{pair_length}
 use Rattle.writing.proofs.lengths.pair_length.Goals as goal
 
-pub overflow_cast-values : goal.overflow_cast-values
-overflow_cast-values c = omega (arith, c.shared_slice_known-3-1.given c.args.atom)
-
 pub width-requires : goal.width-requires
-width-requires c = omega (arith, c.shared_slice_known-3-1.given c.args.atom)
+width-requires c = omega (arith, c.type_inv.values c.args.atom)
 
 pub returns : goal.returns
 returns c = record {
-      is =
-          omega (
-            arith,
-            pair_length (length c.args.values.now) c.args.groups c.args.values.now c.args.levels.now c.args.atom,
-            c.width.ensures.0,
-            c.levels_length.ensures.is,
-          );
-      few = omega (arith, c.width.ensures.1, c.levels_length.ensures.few, c.requires.2);
-    }
+  is =
+      omega (
+        arith,
+        pair_length (length c.args.values.now) c.args.groups c.args.values.now c.args.levels.now c.args.atom,
+        c.width.ensures.0,
+        c.levels_length.ensures.is,
+      );
+  few = omega (arith, c.width.ensures.1, c.levels_length.ensures.few, c.requires.2);
+}

@@ -1,6 +1,5 @@
 -- `writing::lengths::rule_length` meets its contract: the word, the head and the body.
 use native.Mathlib.Omega.{arith}
-use borrow.Author.Rules.{rules}
 use Rattle.writing.proofs.RowLaws.{rule_length, lies}
 use Rattle.writing.proofs.lengths.rule_length.Goals as goal
 

@@ -1,5 +1,4 @@
 -- `writing::lengths::rules_length` meets its contract: the lines of the rows passed are in the total.
-use Prim.Native.Nat.{◌-◌}
 use native.Mathlib.Omega.{arith}
 use Rattle.tables.specs.Rows.{rule_count}
 use Rattle.writing.proofs.RowLaws.{rules_joined}

@@ -1,6 +1,5 @@
 -- `writing::lengths::rules_length` meets its contract: the lines of the rows passed are in the total.
 use Prim.Native.Nat.{◌-◌}
-use borrow.Author.Rules.{rules}
 use Rattle.writing.specs.internal.Parts.{rule_line}
 use Rattle.writing.specs.internal.Counting.{max_line}
 use Rattle.writing.proofs.LengthLaws.{Adding}

@@ -1,5 +1,6 @@
 -- `writing::lengths::term_length` meets its contract: minutes and a literal, and three bytes around them.
 use native.Mathlib.Omega.{arith}
+use Rattle.std.proofs.Common.{rules}
 use lib.IntN.{pos}
 use lib.ListN.{get_or}
 use mir.Syntax.{w16}
@@ -11,19 +12,19 @@ use Rattle.writing.proofs.lengths.term_length.Goals as goal
 pub overflow_cast-minutes : goal.overflow_cast-minutes
 overflow_cast-minutes c =
     let fits : SFits w16 (get_or c.args.minutes.now c.args.place (pos 0)) =
-        record { sfits = c.signed_width-arg-1.given } in
+    search rules in
     minutes_fit_lem (fits)
 
 pub signed_width-requires : goal.signed_width-requires
 signed_width-requires c =
     let fits : SFits w16 (get_or c.args.minutes.now c.args.place (pos 0)) =
-        record { sfits = c.signed_width-arg-1.given } in
+    search rules in
     minutes_printed (fits)
 
 pub returns : goal.returns
 returns c =
     let fits : SFits w16 (get_or c.args.minutes.now c.args.place (pos 0)) =
-        record { sfits = c.signed_width-arg-1.given } in
+    search rules in
     let minutes = minutes_count (fits) c.signed_width.ensures.0 in
     record {
       is = omega (arith, term_length c.args.load_literals.now c.args.minutes.now c.args.place, minutes, c.literal_length.ensures.is);

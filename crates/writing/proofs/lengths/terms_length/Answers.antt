@@ -1,5 +1,4 @@
 -- `writing::lengths::terms_length` meets its contract: the terms passed are in the total.
-use Prim.Native.Nat.{◌-◌}
 use native.Mathlib.Omega.{arith}
 use Rattle.writing.proofs.LengthLaws.{adding_start, adding_turn, adding_end}
 use Rattle.writing.proofs.lengths.terms_length.Goals as goal

@@ -1,5 +1,4 @@
 -- `writing::parts::put_marks` meets its contract: the atoms passed are in the text.
-use Prim.Native.Nat.{◌-◌}
 use native.Mathlib.Omega.{arith}
 use Rattle.printing.proofs.PutLaws.{puts_length}
 use Rattle.printing.proofs.Joining.{joined_start, joined_more, joined_fits, joined_end}

@@ -9,9 +9,9 @@ put-begun-requires c = omega (arith, clause_length c.args.clauses.now c.args.lit
 
 pub put_body-requires : goal.put_body-requires
 put_body-requires c = (
-      lies c.clause_start.ensures.is c.clause_size.ensures.is (c.requires.clauses_lie.within c.args.row c.requires.row_bound.0),
-      omega (arith, clause_length c.args.clauses.now c.args.literals.now c.args.row c.clause_start.ensures.is c.clause_size.ensures.is, c.requires.row_bound.1, c.put-begun.ensures.answered),
-    )
+  lies c.clause_start.ensures.is c.clause_size.ensures.is (c.requires.clauses_lie.within c.args.row c.requires.row_bound.0),
+  omega (arith, clause_length c.args.clauses.now c.args.literals.now c.args.row c.clause_start.ensures.is c.clause_size.ensures.is, c.requires.row_bound.1, c.put-begun.ensures.answered),
+)
 
 pub returns : goal.returns
 returns c = puts_clause _ _ _ c.clause_start.ensures.is c.clause_size.ensures.is c.put-begun.ensures c.put_body.ensures

@@ -1,5 +1,5 @@
 -- `writing::rows::put_clauses` meets its contract: the lines of the clauses passed are in the text.
-use Prim.Native.Nat.{◌-◌, ◌<◌}
+use Prim.Native.Nat.{◌<◌}
 use native.Mathlib.Omega.{arith}
 use Rattle.tables.specs.Rows.{clause_count}
 use Rattle.printing.proofs.PutLaws.{puts_length}
@@ -12,7 +12,10 @@ loop-row-init c = (omega arith, joined_start _ _ _)
 
 pub put_clause-next-requires : goal.put_clause-next-requires
 put_clause-next-requires c = let within : c.loop-row.row < clause_count c.args.clauses.now = omega (arith, c.clause_count-rows.ensures) in
-    (c.requires.clauses_lie, (within, rows_room _ _ _ (clauses_joined c.args.clauses.now c.args.literals.now) within c.requires.literals_in_bounds c.loop-row.invariant.1))
+    record {
+      clauses_lie = c.requires.clauses_lie;
+      row_bound = (within, rows_room _ _ _ (clauses_joined c.args.clauses.now c.args.literals.now) within c.requires.literals_in_bounds c.loop-row.invariant.1);
+    }
 
 pub loop-row-preserved : goal.loop-row-preserved
 loop-row-preserved c = (omega arith, joined_more _ _ c.loop-row.invariant.1 c.put_clause-next.ensures)

@@ -11,8 +11,7 @@ put-begun-requires c = omega (arith, load_least c.args.loads.now c.args.load_lit
 pub put_signed-low-requires : goal.put_signed-low-requires
 put_signed-low-requires c =
     let low_fits : SFits w32 c.load_low.result =
-        record { sfits = c.load_low.type_inv } in
-    (
+    record { sfits = c.load_low.type_inv } in (
       bound_printed (low_fits) c.load_low.ensures (c.requires.loads_lie.low c.args.row c.requires.row_bound.0),
       omega (arith, load_least c.args.loads.now c.args.load_literals.now c.args.minutes.now c.args.row, c.requires.row_bound.1, bound_length (low_fits) c.load_low.ensures, c.put-begun.ensures.answered),
     )
@@ -20,16 +19,16 @@ put_signed-low-requires c =
 pub put-parted-requires : goal.put-parted-requires
 put-parted-requires c =
     let low_fits : SFits w32 c.load_low.result =
-        record { sfits = c.load_low.type_inv } in
+    record { sfits = c.load_low.type_inv } in
     let low = puts_bound (low_fits) c.load_low.ensures c.put_signed-low.ensures in
     omega (arith, load_least c.args.loads.now c.args.load_literals.now c.args.minutes.now c.args.row, c.requires.row_bound.1, c.put-begun.ensures.answered, low.answered)
 
 pub put_signed-high-requires : goal.put_signed-high-requires
 put_signed-high-requires c =
     let low_fits : SFits w32 c.load_low.result =
-        record { sfits = c.load_low.type_inv } in
+    record { sfits = c.load_low.type_inv } in
     let high_fits : SFits w32 c.load_high.result =
-        record { sfits = c.load_high.type_inv } in
+    record { sfits = c.load_high.type_inv } in
     let low = puts_bound (low_fits) c.load_low.ensures c.put_signed-low.ensures in (
       bound_printed (high_fits) c.load_high.ensures (c.requires.loads_lie.high c.args.row c.requires.row_bound.0),
       omega (arith, load_least c.args.loads.now c.args.load_literals.now c.args.minutes.now c.args.row, c.requires.row_bound.1, c.put-begun.ensures.answered, low.answered, bound_length (high_fits) c.load_high.ensures, c.put-parted.ensures.answered),
@@ -38,22 +37,23 @@ put_signed-high-requires c =
 pub put_line_of_terms-requires : goal.put_line_of_terms-requires
 put_line_of_terms-requires c =
     let low_fits : SFits w32 c.load_low.result =
-        record { sfits = c.load_low.type_inv } in
+    record { sfits = c.load_low.type_inv } in
     let high_fits : SFits w32 c.load_high.result =
-        record { sfits = c.load_high.type_inv } in
+    record { sfits = c.load_high.type_inv } in
     let low = puts_bound (low_fits) c.load_low.ensures c.put_signed-low.ensures in
     let high = puts_bound (high_fits) c.load_high.ensures c.put_signed-high.ensures in
     let within = lies c.load_start.ensures.is c.load_size.ensures.is (c.requires.loads_lie.within c.args.row c.requires.row_bound.0) in
-    let long = load_length c.args.loads.now c.args.load_literals.now c.args.minutes.now c.args.row c.load_start.ensures.is c.load_size.ensures.is in (
-      (within, omega (arith, within, c.requires.loads_lie.paired)),
-      omega (arith, long, c.requires.row_bound.1, c.put-begun.ensures.answered, low.answered, c.put-parted.ensures.answered, high.answered),
-    )
+    let long = load_length c.args.loads.now c.args.load_literals.now c.args.minutes.now c.args.row c.load_start.ensures.is c.load_size.ensures.is in
+    record {
+      size_in_bounds = (within, omega (arith, within, c.requires.loads_lie.paired));
+      size_in_bounds_2 = omega (arith, long, c.requires.row_bound.1, c.put-begun.ensures.answered, low.answered, c.put-parted.ensures.answered, high.answered);
+    }
 
 pub returns : goal.returns
 returns c =
     let low_fits : SFits w32 c.load_low.result =
-        record { sfits = c.load_low.type_inv } in
+    record { sfits = c.load_low.type_inv } in
     let high_fits : SFits w32 c.load_high.result =
-        record { sfits = c.load_high.type_inv } in
+    record { sfits = c.load_high.type_inv } in
     puts_load _ _ _ _ c.load_start.ensures.is c.load_size.ensures.is c.put-begun.ensures (puts_bound (low_fits) c.load_low.ensures c.put_signed-low.ensures) c.put-parted.ensures
     (puts_bound (high_fits) c.load_high.ensures c.put_signed-high.ensures) c.put_line_of_terms.ensures

@@ -1,7 +1,6 @@
 -- `writing::rows::put_rule` meets its contract: the parts of the line stand one behind the other.
 use mathlib.Core.Path.{refl}
 use native.Mathlib.Omega.{arith}
-use borrow.Author.Rules.{rules}
 use Rattle.writing.proofs.RowLaws.{rule_length, puts_rule, lies}
 use Rattle.writing.proofs.rows.put_rule.Goals as goal
 
@@ -13,9 +12,9 @@ put_decimal-headed-requires c = (omega (arith, c.rule_head.ensures.small), omega
 
 pub put_body-requires : goal.put_body-requires
 put_body-requires c = (
-      lies c.rule_start.ensures.is c.rule_size.ensures.is (c.requires.rules_lie.within c.args.row c.requires.row_bound.0),
-      omega (arith, rule_length c.args.rules.now c.args.literals.now c.args.row c.rule_head.ensures.is c.rule_start.ensures.is c.rule_size.ensures.is, c.requires.row_bound.1, c.put-begun.ensures.answered, c.put_decimal-headed.ensures.answered),
-    )
+  lies c.rule_start.ensures.is c.rule_size.ensures.is (c.requires.rules_lie.within c.args.row c.requires.row_bound.0),
+  omega (arith, rule_length c.args.rules.now c.args.literals.now c.args.row c.rule_head.ensures.is c.rule_start.ensures.is c.rule_size.ensures.is, c.requires.row_bound.1, c.put-begun.ensures.answered, c.put_decimal-headed.ensures.answered),
+)
 
 pub returns : goal.returns
 returns c = puts_rule _ _ _ c.rule_head.ensures.is c.rule_start.ensures.is c.rule_size.ensures.is c.put-begun.ensures c.put_decimal-headed.ensures c.put_body.ensures

@@ -1,7 +1,6 @@
 -- `writing::rows::put_rules` meets its contract: the lines of the rules passed are in the text.
-use Prim.Native.Nat.{◌-◌, ◌<◌}
+use Prim.Native.Nat.{◌<◌}
 use native.Mathlib.Omega.{arith}
-use borrow.Author.Rules.{rules}
 use Rattle.tables.specs.Rows.{rule_count}
 use Rattle.printing.proofs.PutLaws.{puts_length}
 use Rattle.printing.proofs.Joining.{joined_start, joined_more}
@@ -13,7 +12,10 @@ loop-row-init c = (omega arith, joined_start _ _ _)
 
 pub put_rule-next-requires : goal.put_rule-next-requires
 put_rule-next-requires c = let within : c.loop-row.row < rule_count c.args.rules.now = omega (arith, c.rule_count-rows.ensures) in
-    (c.requires.rules_lie, (within, rows_room _ _ _ (rules_joined c.args.rules.now c.args.literals.now) within c.requires.literals_in_bounds c.loop-row.invariant.1))
+    record {
+      rules_lie = c.requires.rules_lie;
+      row_bound = (within, rows_room _ _ _ (rules_joined c.args.rules.now c.args.literals.now) within c.requires.literals_in_bounds c.loop-row.invariant.1);
+    }
 
 pub loop-row-preserved : goal.loop-row-preserved
 loop-row-preserved c = (omega arith, joined_more _ _ c.loop-row.invariant.1 c.put_rule-next.ensures)

@@ -1,6 +1,5 @@
 -- `writing::rows::put_rules` meets its contract: the lines of the rules passed are in the text.
 use Prim.Native.Nat.{◌-◌, ◌≤◌}
-use borrow.Author.Rules.{rules}
 use Rattle.printing.proofs.Joining.{Joined}
 use Rattle.writing.specs.internal.Parts.{rule_line}
 use Rattle.writing.proofs.rows.put_rules.Given as goal

@@ -1,5 +1,4 @@
 -- `writing::totals::clauses_total` meets its contract: the sizes of the rows passed are in the total.
-use Prim.Native.Nat.{◌-◌}
 use native.Mathlib.Omega.{arith}
 use Rattle.tables.specs.Rows.{clause_count}
 use Rattle.tables.proofs.TotalLaws.{summing_start, summing_turn, summing_end}
