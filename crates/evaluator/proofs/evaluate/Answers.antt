@@ -1,5 +1,4 @@
 -- `evaluator::evaluate` meets its contract: what is refused leaves the slices alone, and sound tables and slices are evaluated.
-use borrow.Author.Rules.{rules}
 use Rattle.tables.specs.Sound.{Tables, lent}
 use Rattle.evaluator.proofs.Evaluating.{Prepared, tables_answer, slices_answer, marks_answer, prepared, resized_sound, resized_answer}
 use Rattle.evaluator.proofs.evaluate.Goals as goal

@@ -4,7 +4,6 @@ use mathlib.Core.Path.{◌≡◌, refl, ◌∙◌}
 use mathlib.Core.List.{[], ◌∷◌}
 use native.Mathlib.Omega.{arith}
 use lib.ListN.{length}
-use borrow.Author.Rules.{rules}
 use Rattle.tables.specs.Limits.{max_atoms}
 use Rattle.tables.specs.Faults.{lowest, first_fault}
 use Rattle.tables.specs.Values.{not_held}
