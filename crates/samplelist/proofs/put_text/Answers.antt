@@ -87,4 +87,4 @@ returns-in-10 c = put_as c.in-10.is refl c.put-in-10.ensures
 
 pub returns-in_default : goal.returns-in_default
 unfolding bytes prints samples text_at texts
-returns-in_default c = put_as (last _ c.requires.0 c.in_default.rest) refl c.put-in_default.ensures
+returns-in_default c = put_as (last _ c.requires.0 c.in_default.in_default-own.rest) refl c.put-in_default.ensures

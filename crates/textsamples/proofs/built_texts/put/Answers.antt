@@ -1,10 +1,10 @@
 -- `textsamples::built_texts::put` meets its contract: a byte is put where there is room, and the offset stays within the buffer.
 use Prim.Native.Nat.{◌-◌}
 use mathlib.Core.Path.{refl}
-use mathlib.Core.Logic.{⊎_elim}
 use native.Mathlib.Omega.{arith}
 use lib.ListN.{length-set}
 use Rattle.textsamples.proofs.built_texts.put.Goals as goal
+use Rattle.textsamples.proofs.built_texts.put.Goals.{then-next-buffer, else-next-buffer}
 
 pub loop-place-init : goal.loop-place-init
 loop-place-init c = (omega arith, c.requires, refl)
@@ -12,8 +12,14 @@ loop-place-init c = (omega arith, c.requires, refl)
 pub loop-place-preserved : goal.loop-place-preserved
 loop-place-preserved c = let inv = c.loop-place.invariant in (
   omega arith,
-  ⊎_elim (λ w. rw w.3 (omega (arith, w.0.taken, inv.2))) (λ w. rw w.2 inv.1) c.if-next-buffer.branch,
-  ⊎_elim (λ w. rw (w.2, length-set) inv.2) (λ w. rw w.1 inv.2) c.if-next-buffer.branch,
+  elim c.if-next-buffer.branch [
+    then-next-buffer w ↦ rw w.next-is (omega (arith, w.if-next-buffer.true, inv.2))
+  | else-next-buffer w ↦ rw w.next-is inv.1
+  ],
+  elim c.if-next-buffer.branch [
+    then-next-buffer w ↦ rw (w.buffer-is, length-set) inv.2
+  | else-next-buffer w ↦ rw w.buffer-is inv.2
+  ],
 )
 
 pub shape_of-buffer : goal.shape_of-buffer
