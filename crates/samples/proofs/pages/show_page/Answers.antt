@@ -4,6 +4,6 @@ use Rattle.report.proofs.ReportLaws.{report_fits}
 use Rattle.samples.proofs.pages.show_page.Goals as goal
 
 pub slice_bounds-write_all-end : goal.slice_bounds-write_all-end
-slice_bounds-write_all-end c = let short = report_fits c.report-printed.ensures in
+slice_bounds-write_all-end g c = let short = report_fits c.report-printed.ensures in
     let long = c.report-printed.auto.page in
     search rules
