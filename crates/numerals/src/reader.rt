@@ -1,5 +1,5 @@
 // The reader of a book's text: it keeps the lent text together with the offset it has reached.
-// The borrow checker covers no function over such a struct, so each is thin and proved by hand, and `number_from` does the work.
+// Each function is thin, and `number_from` does the work.
 ghost use Rattle.std.specs.Prelude.{◌≡◌};
 ghost use Rattle.numerals.specs.internal.Offsets.{number_at};
 
