@@ -1,5 +1,4 @@
 -- `advancing::founded::found_waves` meets its contract: at the loop's head a wave stands in the queue from `from` on.
-use Prim.Native.Nat.{◌-◌}
 use native.Mathlib.Omega.{arith}
 use Rattle.advancing.proofs.WaveLaws.{waving_start, waving_turn, wave_next, wave_room, wave_end}
 use Rattle.advancing.proofs.founded.found_waves.Goals as goal

@@ -1,7 +1,6 @@
 -- `advancing::fronts::advance` meets its contract: atoms are founded if that is due, the queue is propagated, and the round is closed.
 use Prim.Native.Nat.{ℕ, suc}
 use mathlib.Core.List.{List}
-use borrow.Author.Rules.{rules}
 use Rattle.wellfounded.specs.Definitions.{Definition}
 use Rattle.advancing.specs.internal.Fronts.{Closes, Advances}
 use Rattle.advancing.proofs.FrontLaws.{advance_founds, advance_fits, advance_closes}

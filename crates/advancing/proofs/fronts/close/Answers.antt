@@ -1,5 +1,4 @@
 -- `advancing::fronts::close` meets its contract: with the unfounded atoms false the next stage is reached, and its new atoms have the level.
-use borrow.Author.Rules.{rules}
 use Rattle.advancing.proofs.FrontLaws.{close_fits, close_notable, close_front}
 use Rattle.advancing.proofs.fronts.close.Goals as goal
 

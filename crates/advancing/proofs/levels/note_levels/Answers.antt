@@ -1,5 +1,4 @@
 -- `advancing::levels::note_levels` meets its contract: before each atom of the part those before it have their level.
-use Prim.Native.Nat.{◌-◌}
 use native.Mathlib.Omega.{arith}
 use Rattle.advancing.proofs.NotingLaws.{noted_start, noted_next, noted_within, noted_turn, noted_end}
 use Rattle.advancing.proofs.levels.note_levels.Goals as goal

@@ -1,5 +1,4 @@
 -- `advancing::stages::make_stages` meets its contract: stage 0 is founded and counted, its round closed, and the others follow.
-use borrow.Author.Rules.{rules}
 use Prim.Native.Nat.{ℕ}
 use mathlib.Core.Path.{◌∙◌}
 use mathlib.Core.Bool.{true}

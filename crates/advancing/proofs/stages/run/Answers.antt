@@ -1,5 +1,5 @@
 -- `advancing::stages::run` meets its contract: each round but the last has decided something, so they are no more than the atoms.
-use Prim.Native.Nat.{ℕ, ◌+◌, ◌-◌}
+use Prim.Native.Nat.{ℕ, ◌+◌}
 use mathlib.Core.Path.{refl, ◌∙◌}
 use mathlib.Core.List.{List}
 use native.Mathlib.Omega.{arith}

@@ -1,5 +1,4 @@
 -- `advancing::unfounded::decide_unfounded` meets its contract: before each atom the unfounded ones below it have been made false and queued.
-use Prim.Native.Nat.{◌-◌}
 use native.Mathlib.Omega.{arith}
 use Rattle.advancing.proofs.NotingLaws.{unfounded_start, unfounded_next, unfounded_turn, unfounded_end, unfounded_long}
 use Rattle.advancing.proofs.unfounded.decide_unfounded.Goals as goal
