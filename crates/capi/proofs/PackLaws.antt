@@ -7,7 +7,6 @@ use native.Mathlib.Omega.{arith}
 use lib.ListN.{length, set}
 use borrow.Author.Tests.{eq-eqb, ne_eqb}
 use Rattle.tables.specs.declared.Verdict.{Verdict}
-use Rattle.tables.specs.declared.Verdict.TheVariants.{Accepted, Refused}
 use Rattle.tables.specs.Faults.{position_of}
 use Rattle.tables.specs.Limits.{max_atoms, max_position}
 use Rattle.tables.specs.Sound.{Tables}
@@ -29,8 +28,7 @@ use Rattle.booktext.proofs.Positions.{text_position}
 use Rattle.indexed.specs.EvaluateIndexed.{IndexedSlices, EvaluatesIndexed}
 use Rattle.indexed.proofs.Theorems.{indexed_position, indexed_rounds}
 use Rattle.writing.specs.declared.Written.{Written}
-use Rattle.writing.specs.BookForms.{text_of}
-use Rattle.writing.specs.Writing.{write_of, written_of, Writes}
+use Rattle.writing.specs.Writing.{write_of, Writes}
 use Rattle.writing.proofs.WriteLaws.{promised_as, verdict_as}
 use Rattle.writing.proofs.Theorems.{written_position, written_length}
 use Rattle.capi.specs.Packing.{packed, packed_with, counts_of, no_answer, EvaluatedForC, EvaluatedIndexedForC, seven_places, ReadForC, WrittenForC}

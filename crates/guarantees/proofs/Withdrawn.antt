@@ -11,7 +11,7 @@ use borrow.Author.Tests.{eqb-true, eq-eqb}
 use Rattle.wellfounded.specs.Literals.{is_false, is_held, value_at}
 use Rattle.wellfounded.specs.Definitions.{Rule, Definition, is_defined}
 use Rattle.wellfounded.specs.Unfounded.{Unfounded}
-use Rattle.wellfounded.specs.Stages.{stage, well_founded_model}
+use Rattle.wellfounded.specs.Stages.{stage}
 use Rattle.wellfounded.proofs.Tests.{clash, both}
 use Rattle.wellfounded.proofs.Lists.{any_below_make}
 use Rattle.wellfounded.proofs.Literals.{false_value, false_held}

@@ -4,14 +4,13 @@
 use Prim.Native.Nat.{ℕ, ◌+◌, ◌*◌, ◌-◌, ◌≤◌}
 use mathlib.Core.Path.{◌≡◌, refl, sym, ap, ◌∙◌}
 use mathlib.Core.Bool.{Bool, true, false, cond}
-use mathlib.Core.List.{List, [], ◌∷◌, ◌++◌}
+use mathlib.Core.List.{List, ◌++◌}
 use native.Mathlib.Nat.{sub-zero}
 use native.Mathlib.Omega.{arith}
 use lib.Dec.{eqb}
-use lib.ListN.{length, take, drop, replicate, length-append, length-take, length-drop, length-replicate, take-append-drop}
-use lib.Seq.{length-take-le, take_at}
+use lib.ListN.{length, take, drop, replicate, length-take, length-replicate, take-append-drop}
+use lib.Seq.{length-take-le}
 use borrow.Author.Tests.{eqb-true}
-use Rattle.wellfounded.specs.Lists.{all}
 use Rattle.wellfounded.specs.Stages.{well_founded_model, stages_of}
 use Rattle.wellfounded.proofs.Closure.{model_length, stages_length}
 use Rattle.tables.proofs.RowLaws.{book_size}
@@ -25,8 +24,7 @@ use Rattle.tables.specs.Sound.{Tables, lent, book_of}
 use Rattle.checker.specs.Check.{check_of}
 use Rattle.evaluator.specs.Evaluate.{evaluation_slices, refusal_tests, is_made, evaluated, stopped_or, evaluate_of, Answers}
 use Rattle.evaluator.proofs.MadeLaws.{stopped_unmade, model_made}
-use Rattle.indexing.specs.Index.{IndexFits}
-use Rattle.indexed.specs.EvaluateIndexed.{IndexedSlices, EvaluatesIndexed}
+use Rattle.indexed.specs.EvaluateIndexed.{EvaluatesIndexed}
 use Rattle.indexed.proofs.Theorems.{both_answer}
 use Rattle.judging.specs.declared.reached.Reached.{Reached}
 use Rattle.judging.specs.declared.reached.Space.{Space}
@@ -36,18 +34,17 @@ use Rattle.judging.specs.LentTables.{Table, Rules, Literals, Clauses, Loads, Loa
 use Rattle.judging.specs.States.{open_stood, claim_stood, count_in}
 use Rattle.judging.specs.Judging.{judge_text, forms_of}
 use Rattle.judging.proofs.TableLaws.{each_table}
-use Rattle.judging.proofs.StateLaws.{values_told, levels_told}
 use Rattle.judging.proofs.Counts.{CountsWithin, counts_within_lem}
 use Rattle.judging.proofs.Accepted.{accepted_book, accepted_size}
 use Rattle.forms.specs.Contents.{Contents, over, filled}
 use Rattle.forms.specs.Entries.{given_anew, book_entries}
-use Rattle.forms.proofs.OverLaws.{over_used, over_held, over_front}
+use Rattle.forms.proofs.OverLaws.{over_used, over_held}
 use Rattle.booktext.specs.declared.StateForm.{StateForm}
 use Rattle.booktext.specs.declared.StateForm.TheVariants.{NoState, OpenState, ClaimState}
 use Rattle.booktext.specs.declared.Book.{Book}
 use Rattle.lines.specs.internal.Walks.{Walked}
 use Rattle.booktext.specs.Answers.{space_of, state_of, answer_of}
-use Rattle.booktext.proofs.Filling.{each_laid, used_counts}
+use Rattle.booktext.proofs.Filling.{used_counts}
 use Rattle.booktext.proofs.ReadLaws.{walk_fills}
 use Rattle.booktext.proofs.FewLiterals.{used_few_literals, unused_few_literals}
 use Rattle.booktext.proofs.UsedLaws.{laid_used, used_tables, used_values, used_levels}

@@ -1,5 +1,5 @@
 -- What a text comes to: its verdict, and for an open form what was made.
-use Rattle.std.specs.Prelude.{ℕ, List, [], ◌∷◌, length}
+use Rattle.std.specs.Prelude.{ℕ, List, [], length}
 use Rattle.tables.specs.declared.Verdict.{Verdict}
 use Rattle.tables.specs.declared.Verdict.TheVariants.{Accepted, Refused}
 use Rattle.tables.specs.Faults.{first_fault}

@@ -1,38 +1,37 @@
 -- The forms of tables without a fault and of a claim are a book that tables hold which have the room.
 -- Assumes nothing.
-use Prim.Native.Nat.{ℕ, zero, suc, ◌+◌, ◌*◌, ◌%◌, ◌≤◌, ◌<◌}
-use mathlib.Core.Path.{◌≡◌, refl, sym, ap, ◌∙◌}
-use mathlib.Core.Bool.{Bool, true, false, ◌&&◌}
-use mathlib.Core.List.{List, [], ◌∷◌, ◌++◌, map, Memᴰ}
+use Prim.Native.Nat.{ℕ, ◌+◌, ◌*◌, ◌%◌, ◌≤◌, ◌<◌}
+use mathlib.Core.Path.{◌≡◌, refl, sym, ◌∙◌}
+use mathlib.Core.Bool.{true}
+use mathlib.Core.List.{List, [], ◌∷◌, map, Memᴰ}
 use native.Mathlib.Omega.{arith}
-use lib.Dec.{eqb, leb, ltb}
+use lib.Dec.{leb, ltb}
 use lib.IntN.{ℤ, pos, nat_abs}
-use lib.ListN.{length, get_or, take, drop}
-use borrow.Author.Tests.{eq-eqb, ne_eqb, le-leb, lt-ltb, ltb-false, not-false}
-use Rattle.wellfounded.specs.Lists.{all, tabulate}
+use lib.ListN.{length, get_or, drop}
+use borrow.Author.Tests.{eq-eqb, ne_eqb, le-leb, lt-ltb}
+use Rattle.wellfounded.specs.Lists.{all}
 use Rattle.wellfounded.specs.Literals.{atom_of, body_at}
 use Rattle.wellfounded.specs.Definitions.{Rule}
-use Rattle.wellfounded.proofs.Tests.{both, first, second, neither}
+use Rattle.wellfounded.proofs.Tests.{both}
 use Rattle.wellfounded.proofs.Lists.{all_make, member_entry, length_tabulate}
 use Rattle.tables.specs.Limits.{max_atoms, max_bound, max_minutes, max_value, max_level, max_literals, max_terms}
 use Rattle.tables.specs.Faults.{Test, Absent}
-use Rattle.tables.specs.Rows.{rule_width, clause_width, rule_count, rule_head, rule_start, rule_size, rule_body, rule_at, rules_of, clause_count, clause_at, clauses_of}
-use Rattle.tables.specs.Loads.{Load, load_width, load_count, load_low, load_high, load_start, load_size, term_at, terms_at, load_at, loads_of}
-use Rattle.tables.specs.Sound.{Tables, table_tests, bad_literal, bad_term, Sizes, LoadRowFits, MarksFit}
+use Rattle.tables.specs.Rows.{rule_width, clause_width, rule_count, rule_body, rule_at, rules_of, clause_count, clause_at, clauses_of}
+use Rattle.tables.specs.Loads.{Load, load_width, load_count, load_start, load_size, term_at, terms_at, load_at, loads_of}
+use Rattle.tables.specs.Sound.{Tables, table_tests}
 use Rattle.tables.proofs.SoundTables.{sound_sizes, sound_rules, sound_clauses, sound_loads, sound_load_rows, sound_minutes}
-use Rattle.format.specs.declared.kinds.Kind.{Kind}
 use Rattle.format.specs.declared.kinds.Kind.TheVariants as FormKind
-use Rattle.format.specs.Forms.{LiteralText, TermText, PairText, Form, atoms_form, claim_form}
+use Rattle.format.specs.Forms.{PairText, atoms_form, claim_form}
 use Rattle.format.specs.Views.{view_of, of_kind, same_kind, kind_number}
 use Rattle.judging.specs.declared.reached.Reached.{Reached}
 use Rattle.judging.specs.declared.reached.Space.{Space}
-use Rattle.judging.specs.LentTables.{Table, Rules, Literals, Clauses, Loads, LoadLiterals, Minutes, Marks, Values, Levels, room_in}
-use Rattle.judging.specs.States.{nothing_yet, claim_stood, start, groups_reached, count_in, values_counted, levels_counted, counts_within, fits}
+use Rattle.judging.specs.LentTables.{Table, room_in}
+use Rattle.judging.specs.States.{nothing_yet, claim_stood, start, groups_reached, count_in, values_counted, levels_counted}
 use Rattle.judging.specs.Judging.{literal_within, term_within, pair_within, bound_within, atom_bound, numbers_within, rises_from, parts_in_order, levels_for, levelled}
 use Rattle.judging.specs.Books.{after_all, is_state, InSequence, IsBook}
 use Rattle.judging.proofs.TableLaws.{each_table}
 use Rattle.judging.proofs.StateLaws.{values_told, levels_told}
-use Rattle.judging.proofs.Counts.{CountsWithin, within_counts, each_fits}
+use Rattle.judging.proofs.Counts.{within_counts, each_fits}
 use Rattle.booktext.proofs.UsedLaws.{one_group_read, one_level}
 use Rattle.writing.specs.BookForms.{literal_text, term_text, rule_form_of, clause_form_of, load_form_of, marked_atoms, defined_forms, pairs_of, book_forms}
 use Rattle.writing.specs.Writing.{literals_by_row, terms_by_row}

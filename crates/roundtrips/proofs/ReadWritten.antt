@@ -1,19 +1,19 @@
 -- A text that ends with a claim is read, and what was read is written: the same bytes come out.
 -- Assumes nothing.
-use Prim.Native.Nat.{ℕ, suc, ◌≤◌, ◌<◌}
-use mathlib.Core.Path.{◌≡◌, refl, sym, ap, ap₂, ◌∙◌}
+use Prim.Native.Nat.{ℕ, ◌≤◌}
+use mathlib.Core.Path.{◌≡◌, refl, sym, ap, ◌∙◌}
 use mathlib.Core.Logic.{⊎_elim}
-use mathlib.Core.Bool.{Bool, true, false, cond, false≢true}
-use mathlib.Core.List.{List, [], ◌∷◌, ◌++◌, map, append-nil, append_assoc}
+use mathlib.Core.Bool.{Bool, true, false, false≢true}
+use mathlib.Core.List.{List, [], ◌∷◌, ◌++◌, map}
 use native.Mathlib.Omega.{arith}
-use lib.Dec.{eqb, ltb}
+use lib.Dec.{ltb}
 use lib.ListN.{length}
-use borrow.Author.Tests.{eqb-true, ne_eqb}
+use borrow.Author.Tests.{ne_eqb}
 use Rattle.wellfounded.specs.Lists.{all}
 use Rattle.wellfounded.proofs.Tests.{first, second, either}
 use Rattle.tables.specs.Rows.{rules_of, clauses_of}
 use Rattle.tables.specs.Loads.{loads_of}
-use Rattle.tables.specs.Sound.{Tables, lent}
+use Rattle.tables.specs.Sound.{lent}
 use Rattle.format.specs.declared.kinds.Kind.{Kind}
 use Rattle.format.specs.declared.kinds.Kind.TheVariants as FormKind
 use Rattle.format.specs.Forms.{Form, atoms_form, rule_form, clause_form, load_form, open_form, claim_form, defined_form}
@@ -28,7 +28,6 @@ use Rattle.judging.specs.Judging.{atom_bound, numbers_within, rises_from, parts_
 use Rattle.judging.specs.Books.{after_all, is_state, InSequence}
 use Rattle.judging.proofs.LimitLaws.{atoms_limit}
 use Rattle.judging.proofs.Walking.{after_more}
-use Rattle.forms.specs.Contents.{Contents}
 use Rattle.forms.specs.Entries.{ones_at, book_entries}
 use Rattle.forms.specs.Decoded.{declared_in}
 use Rattle.forms.proofs.Decodes.{rules_decode, clauses_decode, loads_decode}

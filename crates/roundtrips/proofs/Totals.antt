@@ -2,7 +2,7 @@
 -- Assumes nothing.
 use Prim.Native.Nat.{ℕ, zero, suc, ◌+◌, ◌≤◌, ◌<◌}
 use mathlib.Core.Path.{◌≡◌, refl, sym, ap, ◌∙◌}
-use mathlib.Core.List.{List, [], ◌∷◌, ◌++◌, map}
+use mathlib.Core.List.{List, [], ◌∷◌}
 use lib.IntN.{ℤ}
 use lib.ListN.{length}
 use Rattle.wellfounded.specs.Lists.{tabulate, sum_below}
@@ -11,7 +11,7 @@ use Rattle.wellfounded.proofs.Lists.{length_tabulate}
 use Rattle.wellfounded.proofs.Sums.{sum_front, sum_same}
 use Rattle.wellfounded.proofs.Scan.{body_long}
 use Rattle.tables.specs.Rows.{rule_count, rule_start, rule_size, rule_body, rule_at, rules_of, literals_by_rule, clause_count, clause_start, clause_size, clause_at, clauses_of}
-use Rattle.tables.specs.Loads.{Term, Load, load_count, load_size, terms_at, load_at, loads_of}
+use Rattle.tables.specs.Loads.{Load, load_count, load_size, terms_at, load_at, loads_of}
 
 module _ {A : Type 0} where
   -- How much the elements of a list come to.

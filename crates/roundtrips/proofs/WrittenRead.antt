@@ -10,7 +10,6 @@ use Rattle.tables.specs.Rows.{rules_of, clauses_of}
 use Rattle.tables.specs.Loads.{loads_of}
 use Rattle.tables.specs.Sound.{Tables, lent, claim_slices, table_tests, MarksFit, Sound}
 use Rattle.tables.proofs.SoundTables.{lent_tables_lem, lent_slices_lem, lent_marks, slices_fit}
-use Rattle.format.specs.declared.kinds.Kind.TheVariants as FormKind
 use Rattle.format.specs.Forms.{PairText, Form, render_all}
 use Rattle.items.specs.Items.{level_columns}
 use Rattle.format.specs.Views.{view_of, of_kind, same_kind, kind_number}

@@ -1,6 +1,5 @@
 -- `indexed::evaluate_indexed` meets its contract: what is refused before the setting or for it leaves all slices alone; else the rules are followed, and
 -- the model's first fault is the verdict.
-use borrow.Author.Rules.{rules}
 use Rattle.tables.specs.Sound.{Tables, lent}
 use Rattle.indexed.specs.EvaluateIndexed.{IndexedSlices}
 use Rattle.indexed.proofs.IndexedLaws.{early_answer, followable, setting_answer, model_scannable, made_answer}

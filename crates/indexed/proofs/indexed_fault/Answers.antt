@@ -2,7 +2,6 @@
 -- lengths of the index.
 use mathlib.Core.Path.{◌≡◌, sym, ◌∙◌}
 use native.Mathlib.Omega.{arith}
-use borrow.Author.Rules.{rules}
 use Rattle.wellfounded.specs.Lists.{all}
 use Rattle.tables.specs.Rows.{rule_count}
 use Rattle.tables.specs.Sound.{Tables, lent, is_sized, table_tests}

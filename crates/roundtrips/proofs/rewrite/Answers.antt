@@ -1,6 +1,5 @@
 -- `roundtrips::rewrite` meets its contract: the contracts of the writer and the reader, and the round trip.
 use mathlib.Core.Path.{refl}
-use borrow.Author.Rules.{rules}
 use Rattle.roundtrips.proofs.Written.{written_within}
 use Rattle.roundtrips.proofs.Rewriting.{rewrite_refused, rewrite_read}
 use Rattle.roundtrips.proofs.rewrite.Goals as goal

@@ -1,5 +1,4 @@
 -- `textsamples::built_texts::put` meets its contract: a byte is put where there is room, and the offset stays within the buffer.
-use Prim.Native.Nat.{◌-◌}
 use mathlib.Core.Path.{refl}
 use native.Mathlib.Omega.{arith}
 use lib.ListN.{length-set}
@@ -13,12 +12,12 @@ pub loop-place-preserved : goal.loop-place-preserved
 loop-place-preserved c = let inv = c.loop-place.invariant in (
   omega arith,
   elim c.if-next-buffer.branch [
-    then-next-buffer w ↦ rw w.next-is (omega (arith, w.if-next-buffer.true, inv.2))
-  | else-next-buffer w ↦ rw w.next-is inv.1
+    | then-next-buffer w ↦ rw w.next-is (omega (arith, w.if-next-buffer.true, inv.2))
+    | else-next-buffer w ↦ rw w.next-is inv.1
   ],
   elim c.if-next-buffer.branch [
-    then-next-buffer w ↦ rw (w.buffer-is, length-set) inv.2
-  | else-next-buffer w ↦ rw w.buffer-is inv.2
+    | then-next-buffer w ↦ rw (w.buffer-is, length-set) inv.2
+    | else-next-buffer w ↦ rw w.buffer-is inv.2
   ],
 )
 

@@ -1,5 +1,4 @@
 -- `textsamples::built_texts::put_times` meets its contract: the offset stays within the buffer.
-use Prim.Native.Nat.{◌-◌}
 use mathlib.Core.Path.{refl, ◌∙◌}
 use native.Mathlib.Omega.{arith}
 use Rattle.textsamples.proofs.built_texts.put_times.Goals as goal

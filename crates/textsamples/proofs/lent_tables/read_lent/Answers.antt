@@ -1,7 +1,6 @@
 -- `textsamples::lent_tables::read_lent` is safe: each table has the entries that it is lent with, and comes back as long as it was.
 use Prim.Native.Nat.{◌-◌}
 use lib.Seq.{length_front}
-use borrow.Author.Rules.{rules}
 use Rattle.textsamples.proofs.lent_tables.read_lent.Goals as goal
 
 pub shape_of-rules : goal.shape_of-rules
