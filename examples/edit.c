@@ -3,11 +3,14 @@
  *     cc -o edit edit.c $(pkg-config --cflags --libs battenplum)
  *     ./edit RULE [FILE]
  *
- * RULE counts from 0, as every position does. The book is read from FILE, or from standard input if FILE is - or missing, and the new text
- * is printed. Send it to another file than FILE, which the shell would empty before it is read. If the rule was the last one of its head,
- * the new text declares that atom defined; without that line it would become open, and could be set to true.
+ * RULE counts from 0, as every position does, through the (rule ...) and then the (also ...) lines. The book is read from FILE, or from
+ * standard input if FILE is - or missing, and the new text is printed. Send it to another file than FILE, which the shell would empty
+ * before it is read. If the rule is a (rule ...) line and the last one of its head, the new text declares that atom defined; without that
+ * line it would become open in group 0, and could be set to true. In a higher group nothing can be declared: the head of the last
+ * (also ...) line that a group has for it is open there from then on.
  *
- * The claim is written as it stands. With a rule less its values or levels may be wrong, which `./edit RULE FILE | battenplum` tells.
+ * The claim is written as it stands, but for the levels of groups that the book has lost with the last rule of its highest group. With a
+ * rule less its values or levels may be wrong, which `./edit RULE FILE | battenplum` tells.
  *
  * The exit status is 0 if a text was printed, 1 if the library refuses the book, and 2 for trouble. For 1 and 2 the reason is on standard
  * error.
@@ -21,8 +24,9 @@
 
 enum { WRITTEN = 0, REFUSED = 1, TROUBLE = 2 };
 
-/* A rule's row has its head, and the start and the count of its body in the literals; a clause's row has its start and its count. */
-enum { HEAD = 0, START = 1, COUNT = 2, RULE_WIDTH = 3, CLAUSE_WIDTH = 2 };
+/* A rule's row has its head, the start and the count of its body in the literals, and its group; a clause's row has its start and its
+ * count. */
+enum { HEAD = 0, START = 1, COUNT = 2, GROUP = 3, RULE_WIDTH = 4, CLAUSE_WIDTH = 2 };
 
 static int trouble(const char *name, const char *reason) {
     fprintf(stderr, "edit: %s: %s\n", name, reason);
@@ -76,23 +80,25 @@ static void strike(battenplum_storage *book, battenplum_tables *tables, size_t r
     lower(book->clauses, tables->clauses_len, CLAUSE_WIDTH, count);
 }
 
+/* Whether an atom heads a rule of group 0, where it can be declared. */
 static int heads_rule(const battenplum_tables *tables, unsigned atom) {
     size_t i;
 
-    for (i = HEAD; i < tables->rules_len; i += RULE_WIDTH)
-        if (tables->rules[i] == atom)
+    for (i = 0; i < tables->rules_len; i += RULE_WIDTH)
+        if (tables->rules[i + HEAD] == atom && tables->rules[i + GROUP] == 0)
             return 1;
     return 0;
 }
 
 /* Strikes the rule and writes the new text over the old one. Returns what battenplum_write returns. */
 static uint64_t edited(battenplum_storage *book, battenplum_tables *tables, size_t rule, uint8_t *text) {
-    const uint16_t head = book->rules[rule * RULE_WIDTH + HEAD];
+    const uint16_t head = book->rules[rule * RULE_WIDTH + HEAD], group = book->rules[rule * RULE_WIDTH + GROUP];
 
     strike(book, tables, rule);
     /* The reader takes heads that the book does not have; these are not its atoms, and have no mark. */
-    if (head < tables->n && !heads_rule(tables, head))
+    if (group == 0 && head < tables->n && !heads_rule(tables, head))
         book->marks[head] = 1;
+    /* The levels stand group by group: if there are fewer groups now, those of the higher ones are behind what is written. */
     return battenplum_write_tables(tables, book->values, book->levels, text, BATTENPLUM_TEXT_MAX);
 }
 

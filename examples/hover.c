@@ -20,8 +20,8 @@
 
 enum { PRINTED = 0, REFUSED = 1, TROUBLE = 2 };
 
-/* A rule's row has its head, and the start and the count of its body in the literals. */
-enum { HEAD = 0, START = 1, COUNT = 2, RULE_WIDTH = 3 };
+/* A rule's row has its head, the start and the count of its body in the literals, and its group. */
+enum { HEAD = 0, START = 1, COUNT = 2, GROUP = 3, RULE_WIDTH = 4 };
 
 /* Room for the index of every book. */
 static uint16_t starts[BATTENPLUM_STARTS(BATTENPLUM_ATOMS)], entries[BATTENPLUM_LITERALS];
@@ -61,7 +61,10 @@ static void print_rule(const battenplum_tables *tables, size_t rule) {
     const uint16_t *body = tables->literals + row[START];
     size_t i;
 
-    printf("(rule %u", (unsigned)row[HEAD]);
+    if (row[GROUP] == 0)
+        printf("(rule %u", (unsigned)row[HEAD]);
+    else
+        printf("(also %u %u", (unsigned)row[GROUP], (unsigned)row[HEAD]);
     for (i = 0; i < row[COUNT]; i++)
         printf(body[i] % 2 == 0 ? " %u" : " (not %u)", (unsigned)body[i] / 2);
     printf(")");

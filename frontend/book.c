@@ -20,6 +20,7 @@ void book_judge(book *b) {
     if (battenplum_read_tables(b->text, b->length, &b->storage, &b->tables, &b->state) != BATTENPLUM_ACCEPTED)
         b->state = BATTENPLUM_STATE_NONE;
     b->declared = count_marks(&b->tables);
+    b->groups = battenplum_groups(b->tables.rules, b->tables.rules_len);
     b->values = b->storage.values;
     b->levels = b->storage.levels;
     if (b->state == BATTENPLUM_STATE_OPEN) {
@@ -50,7 +51,10 @@ size_t line_number(const book *b, size_t offset) {
     return number;
 }
 
-size_t rule_count(const book *b) { return b->tables.rules_len / 3; }
+/* A rule's row has its head, the start and the count of its body, and its group. */
+enum { HEAD = 0, START = 1, COUNT = 2, GROUP = 3, RULE_WIDTH = 4 };
+
+size_t rule_count(const book *b) { return b->tables.rules_len / RULE_WIDTH; }
 
 size_t clause_count(const book *b) { return b->tables.clauses_len / 2; }
 
@@ -60,7 +64,8 @@ size_t load_count(const book *b) { return b->tables.loads_len / 4; }
 static size_t first_row_line(const book *b) { return b->declared > 0 ? DEFINED_LINE + 1 : 2; }
 
 row rule_row(const book *b, size_t rule) {
-    row r = {first_row_line(b) + rule, b->tables.rules[3 * rule + 1], b->tables.rules[3 * rule + 2]};
+    const uint16_t *entries = b->tables.rules + RULE_WIDTH * rule;
+    row r = {first_row_line(b) + rule, entries[START], entries[COUNT]};
     return r;
 }
 
@@ -77,7 +82,9 @@ row load_row(const book *b, size_t load) {
 
 size_t state_line(const book *b) { return first_row_line(b) + rule_count(b) + clause_count(b) + load_count(b); }
 
-size_t rule_head(const book *b, size_t rule) { return b->tables.rules[3 * rule]; }
+size_t rule_head(const book *b, size_t rule) { return b->tables.rules[RULE_WIDTH * rule + HEAD]; }
+
+size_t rule_group(const book *b, size_t rule) { return b->tables.rules[RULE_WIDTH * rule + GROUP]; }
 
 size_t first_rule(const book *b, size_t atom) {
     size_t rule = 0;
@@ -88,7 +95,23 @@ size_t first_rule(const book *b, size_t atom) {
 
 bool heads_rule(const book *b, size_t atom) { return first_rule(b, atom) < rule_count(b); }
 
-bool is_defined(const book *b, size_t atom) { return (atom < b->tables.marks_len && b->tables.marks[atom] == 1) || heads_rule(b, atom); }
+bool is_declared(const book *b, size_t atom) { return atom < b->tables.marks_len && b->tables.marks[atom] == 1; }
+
+bool is_defined(const book *b, size_t atom) { return is_declared(b, atom) || heads_rule(b, atom); }
+
+bool heads_rule_in(const book *b, size_t group, size_t atom) {
+    size_t rule;
+
+    for (rule = 0; rule < rule_count(b); rule++)
+        if (rule_head(b, rule) == atom && rule_group(b, rule) == group) return true;
+    return false;
+}
+
+bool is_defined_in(const book *b, size_t group, size_t atom) {
+    return (group == 0 && is_declared(b, atom)) || heads_rule_in(b, group, atom);
+}
+
+unsigned level_in(const book *b, size_t group, size_t atom) { return b->levels[group * b->tables.n + atom]; }
 
 bool literal_is(const book *b, uint16_t literal, unsigned value) {
     unsigned negated = literal % 2u;

@@ -24,7 +24,9 @@ typedef struct book {
     battenplum_tables tables;
     battenplum_storage storage;
     size_t declared; /* how many atoms a defined line names; 0 if there is none */
-    /* The claim's values and levels; of an open book the model's, which are there for the numbers 0, 25, 26 and 27. */
+    size_t groups;   /* of the rules */
+    /* The claim's values and levels, in each group one for each atom; of an open book the model's, which are there for the numbers 0, 25,
+     * 26 and 27. */
     const uint8_t *values;
     const uint16_t *levels;
     uint8_t made_values[BATTENPLUM_ATOMS];
@@ -39,7 +41,8 @@ void book_judge(book *b);
 line line_from(const book *b, size_t offset);
 size_t line_number(const book *b, size_t offset);
 
-/* Rows in the tables, of a text that the reader accepts. Each stands on a line of its own, after the atoms line and the defined line. */
+/* Rows in the tables, of a text that the reader accepts. Each stands on a line of its own, after the atoms line and the defined line. The
+ * rules are those of all groups, also lines behind the others. */
 typedef struct row {
     size_t line;
     size_t start;
@@ -54,11 +57,18 @@ row clause_row(const book *b, size_t clause);
 row load_row(const book *b, size_t load);
 size_t state_line(const book *b);
 size_t rule_head(const book *b, size_t rule);
+size_t rule_group(const book *b, size_t rule);
 
-/* The first rule with a head, or rule_count if there is none. */
+/* The first rule with a head, of whatever group, or rule_count if there is none. */
 size_t first_rule(const book *b, size_t atom);
 bool heads_rule(const book *b, size_t atom);
-bool is_defined(const book *b, size_t atom); /* declared, or heads a rule */
+bool is_declared(const book *b, size_t atom);
+bool is_defined(const book *b, size_t atom); /* in some group: declared, or heads a rule */
+
+/* The same in one group. A declaration counts in group 0 alone. */
+bool heads_rule_in(const book *b, size_t group, size_t atom);
+bool is_defined_in(const book *b, size_t group, size_t atom);
+unsigned level_in(const book *b, size_t group, size_t atom);
 
 /* Whether a literal has a value, 1 for true and 0 for false. An undecided one has neither. */
 bool literal_is(const book *b, uint16_t literal, unsigned value);

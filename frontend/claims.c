@@ -1,5 +1,12 @@
-/* 21 to 24: what a claim or an open line says of an atom, against its rules. */
+/* 21 to 24: what a claim or an open line says of an atom, against its rules. 35: an open line where no open line may be. */
 #include "explain.h"
+
+/* In a book of several groups it is said where something is so. */
+static const char *there(const book *b) { return b->groups > 1 ? " there" : ""; }
+
+static void say_group(const book *b, words *w, size_t group) {
+    if (b->groups > 1) say(w, " in group %zu", group);
+}
 
 /* Where an open line names an atom, from 1. It names them rising. */
 static size_t place_of(const book *b, size_t atom) {
@@ -10,9 +17,9 @@ static size_t place_of(const book *b, size_t atom) {
     return place;
 }
 
-/* Of an atom that is defined and heads no rule. */
-static void say_withdrawn(words *w, const char *which) {
-    say(w, "%s is declared defined (line %d) and heads no rule, so it is false", which, DEFINED_LINE);
+/* Of an atom that is defined in group 0 and heads no rule there. */
+static void say_withdrawn(const book *b, words *w, const char *which) {
+    say(w, "%s is declared defined (line %d) and heads no rule%s, so it is false", which, DEFINED_LINE, b->groups > 1 ? " of group 0" : "");
 }
 
 static void say_value(const book *b, const facts *names, explanation *e) {
@@ -32,34 +39,54 @@ static void say_value(const book *b, const facts *names, explanation *e) {
         say(&e->said, ", so take it out of this line");
         return;
     }
-    say_withdrawn(&e->said, ", which");
+    say_withdrawn(b, &e->said, ", which");
     say(&e->said, "; take it out of this line, or, if people set it, out of the defined line");
 }
 
-static size_t defined_count(const book *b) {
+static size_t defined_count(const book *b, size_t group) {
     size_t count = 0;
     size_t atom;
 
-    for (atom = 0; atom < b->tables.n; atom++) count += is_defined(b, atom);
+    for (atom = 0; atom < b->tables.n; atom++) count += is_defined_in(b, group, atom);
     return count;
+}
+
+static bool has_bad_level(const book *b, size_t group, size_t atom) {
+    unsigned level = level_in(b, group, atom);
+
+    return is_defined_in(b, group, atom) ? level == 0 || level > defined_count(b, group) : level > 0;
+}
+
+/* The level of an atom that is open in a group. */
+static void say_open_level(const book *b, words *w, size_t group, size_t atom) {
+    say(w, "the atom is open%s (it heads no rule%s%s)", there(b), there(b), group == 0 ? " and is not declared" : "");
+    say(w, ", so its level%s is 0", there(b));
+    if (is_declared(b, atom)) say(w, "; it is declared, which counts in group 0 alone");
 }
 
 static void say_level(const book *b, const facts *names, explanation *e) {
     size_t atom = b->position;
-    size_t count = defined_count(b);
+    size_t group = 0;
+    size_t count;
 
+    /* Of several the lowest is meant. */
+    while (group + 1 < b->groups && !has_bad_level(b, group, atom)) group++;
+    count = defined_count(b, group);
     e->line = state_line(b);
     say(&e->said, "pair %zu, of ", atom + 1);
     say_atom(&e->said, names, atom);
-    say(&e->said, ", has the level %u; ", b->levels[atom]);
-    if (!is_defined(b, atom)) {
-        say(&e->said, "the atom is open (it heads no rule and is not declared), so its level is 0");
+    say(&e->said, ", has the level %u", level_in(b, group, atom));
+    say_group(b, &e->said, group);
+    say(&e->said, "; ");
+    if (!is_defined_in(b, group, atom)) {
+        say_open_level(b, &e->said, group, atom);
         return;
     }
-    if (heads_rule(b, atom)) say(&e->said, "the atom heads a rule");
+    if (heads_rule_in(b, group, atom)) say(&e->said, "the atom heads a rule%s", there(b));
     else say(&e->said, "the atom is declared defined (line %d)", DEFINED_LINE);
-    if (count == 1) say(&e->said, ", so its level is 1, as no other atom is defined");
-    else say(&e->said, ", so its level is from 1 to %zu, as %zu atoms are defined", count, count);
+    say(&e->said, ", so its level%s is ", there(b));
+    if (count == 1) say(&e->said, "1, as no other atom is defined%s", there(b));
+    else say(&e->said, "from 1 to %zu, as %zu atoms are defined%s", count, count, there(b));
 }
 
 /* The first literal of a rule that is not true, or the row's count. */
@@ -70,22 +97,44 @@ static size_t first_untrue(const book *b, const row *r) {
     return i;
 }
 
-/* The first literal of a rule on a defined atom that is not at a lower level than the head, or the row's count. */
-static size_t first_not_lower(const book *b, const row *r, size_t head) {
+/* The first literal of a rule on an atom defined in its group that is not at a lower level there than the head, or the row's count. */
+static size_t first_not_lower(const book *b, size_t rule) {
+    row r = rule_row(b, rule);
+    size_t group = rule_group(b, rule);
+    unsigned level = level_in(b, group, rule_head(b, rule));
     size_t i;
 
-    for (i = 0; i < r->count; i++) {
-        size_t atom = b->tables.literals[r->start + i] / 2u;
+    for (i = 0; i < r.count; i++) {
+        size_t atom = b->tables.literals[r.start + i] / 2u;
 
-        if (is_defined(b, atom) && b->levels[atom] >= b->levels[head]) return i;
+        if (is_defined_in(b, group, atom) && level_in(b, group, atom) >= level) return i;
     }
     return i;
 }
 
-static void say_why_not(const book *b, const facts *names, words *w, size_t rule, size_t head) {
+static bool supports(const book *b, size_t rule) {
+    row r = rule_row(b, rule);
+
+    return first_untrue(b, &r) == r.count && first_not_lower(b, rule) == r.count;
+}
+
+static bool is_rule_of(const book *b, size_t rule, size_t group, size_t atom) {
+    return rule_head(b, rule) == atom && rule_group(b, rule) == group;
+}
+
+/* Whether an atom is defined in a group and no rule there makes it true. */
+static bool lacks_rule(const book *b, size_t group, size_t atom) {
+    size_t rule;
+
+    for (rule = 0; rule < rule_count(b); rule++)
+        if (is_rule_of(b, rule, group, atom) && supports(b, rule)) return false;
+    return is_defined_in(b, group, atom);
+}
+
+static void say_why_not(const book *b, const facts *names, words *w, size_t rule) {
     row r = rule_row(b, rule);
     size_t untrue = first_untrue(b, &r);
-    size_t i = untrue < r.count ? untrue : first_not_lower(b, &r, head);
+    size_t i = untrue < r.count ? untrue : first_not_lower(b, rule);
     size_t atom;
 
     if (i == r.count) return;
@@ -94,31 +143,34 @@ static void say_why_not(const book *b, const facts *names, words *w, size_t rule
     else say(w, "; at line %zu the body is all true, but literal %zu is not at a lower level: ", r.line, i + 1);
     say_atom(w, names, atom);
     if (untrue < r.count) say(w, " is claimed %s", b->values[atom] == 1 ? "true" : "false");
-    else say(w, " is at level %u", b->levels[atom]);
+    else say(w, " is at level %u", level_in(b, rule_group(b, rule), atom));
 }
 
-/* The first rule of the atom whose body is all true, else the first of its rules. */
-static size_t rule_to_speak_of(const book *b, size_t atom) {
+/* The first rule of the atom in a group whose body is all true, else the first of its rules there. */
+static size_t rule_to_speak_of(const book *b, size_t group, size_t atom) {
+    size_t first = rule_count(b);
     size_t rule;
 
     for (rule = 0; rule < rule_count(b); rule++) {
         row r = rule_row(b, rule);
 
-        if (rule_head(b, rule) == atom && first_untrue(b, &r) == r.count) return rule;
+        if (!is_rule_of(b, rule, group, atom)) continue;
+        if (first_untrue(b, &r) == r.count) return rule;
+        if (first == rule_count(b)) first = rule;
     }
-    return first_rule(b, atom);
+    return first;
 }
 
-/* "none of its rules (lines 2, 3) has a body that is all true", "the body of its rule (line 2) is not all true". */
-static void say_no_rule(const book *b, words *w, size_t atom) {
+/* "none of its rules (lines 2, 3) has a body that is all true", "the body of its rule there (line 2) is not all true". */
+static void say_no_rule(const book *b, words *w, size_t group, size_t atom) {
     size_t count = 0;
     size_t listed = 0;
     size_t rule;
 
-    for (rule = 0; rule < rule_count(b); rule++) count += rule_head(b, rule) == atom;
-    say(w, count == 1 ? "the body of its rule (line " : "none of its rules (lines ");
+    for (rule = 0; rule < rule_count(b); rule++) count += is_rule_of(b, rule, group, atom);
+    say(w, count == 1 ? "the body of its rule%s (line " : "none of its rules%s (lines ", there(b));
     for (rule = 0; rule < rule_count(b); rule++) {
-        if (rule_head(b, rule) != atom) continue;
+        if (!is_rule_of(b, rule, group, atom)) continue;
         if (!say_next(w, &listed)) break;
         say(w, "%zu", rule_row(b, rule).line);
     }
@@ -127,21 +179,26 @@ static void say_no_rule(const book *b, words *w, size_t atom) {
 
 static void say_unsupported(const book *b, const facts *names, explanation *e) {
     size_t atom = b->position;
+    size_t group = 0;
 
+    /* Of several the lowest is meant. */
+    while (group + 1 < b->groups && !lacks_rule(b, group, atom)) group++;
     e->line = state_line(b);
     say_atom(&e->said, names, atom);
-    say(&e->said, " is claimed true at level %u, and ", b->levels[atom]);
-    if (!heads_rule(b, atom)) {
-        say_withdrawn(&e->said, "it");
+    say(&e->said, " is claimed true at level %u", level_in(b, group, atom));
+    say_group(b, &e->said, group);
+    say(&e->said, ", and ");
+    if (!heads_rule_in(b, group, atom)) {
+        say_withdrawn(b, &e->said, "it");
         return;
     }
-    say_no_rule(b, &e->said, atom);
-    say(&e->said, " with each defined atom at a lower level");
-    say_why_not(b, names, &e->said, rule_to_speak_of(b, atom), atom);
+    say_no_rule(b, &e->said, group, atom);
+    say(&e->said, " with each %s at a lower level", b->groups > 1 ? "atom that is defined there" : "defined atom");
+    say_why_not(b, names, &e->said, rule_to_speak_of(b, group, atom));
 }
 
 /* Of a rule that nothing blocks: the first literal that is false, but at too high a level. */
-static void say_why_unblocked(const book *b, const facts *names, words *w, const row *r) {
+static void say_why_unblocked(const book *b, const facts *names, words *w, size_t group, const row *r) {
     size_t i;
 
     if (r->count == 0) {
@@ -154,7 +211,7 @@ static void say_why_unblocked(const book *b, const facts *names, words *w, const
         if (!literal_is(b, literal, 0)) continue;
         say(w, "; literal %zu is false, but ", i + 1);
         say_atom(w, names, literal / 2u);
-        say(w, " is at level %u and must be at %s level", b->levels[literal / 2u],
+        say(w, " is at level %u and must be at %s level", level_in(b, group, literal / 2u),
             literal % 2u ? "a lower" : "the head's or a lower");
         return;
     }
@@ -164,12 +221,22 @@ static void say_why_unblocked(const book *b, const facts *names, words *w, const
 static void say_unblocked(const book *b, const facts *names, explanation *e) {
     row r = rule_row(b, b->position);
     size_t head = rule_head(b, b->position);
+    size_t group = rule_group(b, b->position);
 
     e->line = r.line;
     say(&e->said, "the head, ");
     say_atom(&e->said, names, head);
-    say(&e->said, ", is claimed false at level %u, and no literal blocks this rule", b->levels[head]);
-    say_why_unblocked(b, names, &e->said, &r);
+    say(&e->said, ", is claimed false at level %u", level_in(b, group, head));
+    say_group(b, &e->said, group);
+    say(&e->said, ", and no literal blocks this rule");
+    say_why_unblocked(b, names, &e->said, group, &r);
+}
+
+void explain_other_group(const book *b, explanation *e) {
+    if (b->position >= rule_count(b)) return;
+    e->line = rule_row(b, b->position).line;
+    say(&e->said, "this rule is of group %zu, and the book ends with an open line (line %zu)", rule_group(b, b->position), state_line(b));
+    say(&e->said, "; values are worked out only if all rules are of group 0, so end the book with a claim");
 }
 
 void explain_claim(const book *b, const facts *names, explanation *e) {

@@ -16,6 +16,7 @@ void explain(const book *b, const facts *names, explanation *e) {
     case BATTENPLUM_BAD_RULE_ROW:
     case BATTENPLUM_BAD_LITERAL:
     case BATTENPLUM_BAD_TERM: explain_missing_atom(b, names, e); break;
+    case BATTENPLUM_OTHER_GROUP: explain_other_group(b, e); break;
     case BATTENPLUM_BAD_VALUE:
     case BATTENPLUM_BAD_LEVEL:
     case BATTENPLUM_UNSUPPORTED:
@@ -25,5 +26,6 @@ void explain(const book *b, const facts *names, explanation *e) {
     case BATTENPLUM_FAILING_LOAD: explain_model(b, names, e); break;
     default: break;
     }
+    /* 34 and the other numbers of tables cannot come from a text. */
     if (e->said.length == 0) say(&e->said, "%s", battenplum_message(b->number));
 }

@@ -19,6 +19,7 @@ void explain_malformed(const book *b, const facts *names, explanation *e); /* 1 
 void explain_limits(const book *b, const facts *names, explanation *e);    /* 2 */
 void explain_order(const book *b, explanation *e);                         /* 3 */
 void explain_missing_atom(const book *b, const facts *names, explanation *e); /* 12, 15, 16 */
+void explain_other_group(const book *b, explanation *e);                   /* 35 */
 void explain_claim(const book *b, const facts *names, explanation *e);     /* 21 to 24 */
 void explain_model(const book *b, const facts *names, explanation *e);     /* 25 to 27 */
 

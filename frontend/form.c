@@ -6,14 +6,16 @@
 #define NUMERAL_MOST 10000000u
 
 const kind_words kinds[KINDS] = {
-    {"", "a line", "(atoms N), (defined A ...), (rule H L ...), (clause L ...), (load LO HI (M L) ...), (open A ...) or (claim (V K) ...)"},
+    {"", "a line",
+     "(atoms N), (defined A ...), (rule H L ...), (also G H L ...), (clause L ...), (load LO HI (M L) ...), (open A ...) or (claim (V K ...) ...)"},
     {"atoms", "the atoms line", "(atoms N)"},
     {"defined", "a defined line", "(defined A ...)"},
     {"rule", "a rule", "(rule H L ...)"},
+    {"also", "an also line", "(also G H L ...)"},
     {"clause", "a clause", "(clause L ...)"},
     {"load", "a load line", "(load LO HI (M L) ...)"},
     {"open", "an open line", "(open A ...)"},
-    {"claim", "a claim", "(claim (V K) ...)"},
+    {"claim", "a claim", "(claim (V K ...) ...)"},
 };
 
 int byte_at(const line *l, size_t at) { return at < l->length ? l->bytes[at] : -1; }
@@ -23,6 +25,8 @@ bool is_digit(int byte) { return byte >= '0' && byte <= '9'; }
 bool is_capital(int byte) { return byte >= 'A' && byte <= 'Z'; }
 
 bool is_letter(int byte) { return is_capital(byte) || (byte >= 'a' && byte <= 'z'); }
+
+bool is_rule(enum kind kind) { return kind == KIND_RULE || kind == KIND_ALSO; }
 
 enum kind kind_of_word(const uint8_t *bytes, size_t length) {
     enum kind kind;
@@ -45,7 +49,7 @@ static bool read_byte(form *f, int byte, enum expected expected) {
 
 /* A number that is refused is left unread, with the reading at its first byte. */
 static bool read_numeral(form *f, enum role role, enum expected expected) {
-    numeral n = {role, f->parts, f->at, f->at, 0, false};
+    numeral n = {role, f->parts, f->group, f->at, f->at, 0, false};
 
     f->role = role;
     if (expected == EXPECT_SIGNED && byte_at(&f->line, n.end) == '-') {
@@ -98,8 +102,13 @@ static bool read_pair(form *f) {
     f->role = ROLE_VALUE;
     if (!read_byte(f, '(', EXPECT_OPENING)) return false;
     f->inside = IN_PAIR;
-    return read_numeral(f, ROLE_VALUE, EXPECT_NUMBER) && read_space(f, ROLE_LEVEL) && read_numeral(f, ROLE_LEVEL, EXPECT_NUMBER) &&
-           read_closing(f, IN_FORM);
+    f->group = 0;
+    if (!read_numeral(f, ROLE_VALUE, EXPECT_NUMBER)) return false;
+    for (;;) {
+        if (!read_space(f, ROLE_LEVEL) || !read_numeral(f, ROLE_LEVEL, EXPECT_NUMBER)) return false;
+        if (byte_at(&f->line, f->at) != ' ') return read_closing(f, IN_FORM);
+        f->group += 1;
+    }
 }
 
 static bool read_defined_atom(form *f) { return read_numeral(f, ROLE_DEFINED, EXPECT_NUMBER); }
@@ -138,6 +147,9 @@ static bool read_rest(form *f) {
         return read_space(f, ROLE_DEFINED) && read_defined_atom(f) && read_parts(f, read_defined_atom);
     case KIND_RULE:
         return read_space(f, ROLE_HEAD) && read_numeral(f, ROLE_HEAD, EXPECT_NUMBER) && read_parts(f, read_literal);
+    case KIND_ALSO:
+        return read_space(f, ROLE_GROUP) && read_numeral(f, ROLE_GROUP, EXPECT_NUMBER) && read_space(f, ROLE_HEAD) &&
+               read_numeral(f, ROLE_HEAD, EXPECT_NUMBER) && read_parts(f, read_literal);
     case KIND_CLAUSE: return read_parts(f, read_literal);
     case KIND_LOAD:
         return read_space(f, ROLE_LOW) && read_numeral(f, ROLE_LOW, EXPECT_SIGNED) && read_space(f, ROLE_HIGH) &&

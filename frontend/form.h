@@ -12,12 +12,14 @@ typedef struct line {
     bool ended;    /* whether byte 10 follows */
 } line;
 
-enum kind { KIND_NONE, KIND_ATOMS, KIND_DEFINED, KIND_RULE, KIND_CLAUSE, KIND_LOAD, KIND_OPEN, KIND_CLAIM, KINDS };
+/* In the order in which they stand in a book. */
+enum kind { KIND_NONE, KIND_ATOMS, KIND_DEFINED, KIND_RULE, KIND_ALSO, KIND_CLAUSE, KIND_LOAD, KIND_OPEN, KIND_CLAIM, KINDS };
 
 /* What a number of a form is. Atoms of literals and of load terms are told apart. */
 enum role {
     ROLE_SIZE,
     ROLE_DEFINED,
+    ROLE_GROUP,
     ROLE_HEAD,
     ROLE_LITERAL,
     ROLE_LOW,
@@ -48,7 +50,8 @@ enum inside { IN_FORM, IN_NEGATION, IN_TERM, IN_PAIR };
 /* A number as it stands. The size stops growing above every limit, so that digits without end do no harm. */
 typedef struct numeral {
     enum role role;
-    size_t part; /* the literal, term, atom or pair, from 1 */
+    size_t part;  /* the literal, term, atom or pair, from 1 */
+    size_t group; /* of a level */
     size_t at;
     size_t end;
     uint32_t size;
@@ -65,6 +68,7 @@ typedef struct form {
     enum inside inside;
     size_t at;    /* where the reading stopped */
     size_t parts; /* literals, terms, atoms or pairs that were begun */
+    size_t group; /* of the level in a pair that was read last, or that should stand here */
     numeral_seen *seen;
     void *context;
 } form;
@@ -87,7 +91,11 @@ bool is_capital(int byte);
 /* The kind of the form whose word has these bytes, or KIND_NONE. */
 enum kind kind_of_word(const uint8_t *bytes, size_t length);
 
-/* Reads a line and tells `seen` each number, if it is not null. True if the line is a form, whether or not it is ended. */
+/* Whether a kind's lines are rules, of group 0 or another. */
+bool is_rule(enum kind kind);
+
+/* Reads a line and tells `seen` each number, if it is not null. True if the line is a form, whether or not it is ended. A pair may have any
+ * number of levels here; how many it needs is known to whoever knows the lines before. */
 bool form_read(form *f, const line *l, numeral_seen *seen, void *context);
 
 #endif

@@ -7,7 +7,8 @@
 #define MOST_BOUND 1000000
 #define MOST_VALUE 255
 #define MOST_LEVEL 65535
-#define MOST_RULES (BATTENPLUM_RULE_ENTRIES / 3)
+#define MOST_GROUP (BATTENPLUM_GROUPS - 1)
+#define MOST_RULES BATTENPLUM_RULE_ROWS
 #define MOST_CLAUSES (BATTENPLUM_CLAUSE_ENTRIES / 2)
 #define MOST_LOADS (BATTENPLUM_LOAD_ENTRIES / 4)
 
@@ -32,12 +33,14 @@ static uint32_t most(const search *s, enum role role) {
     case ROLE_MINUTES: return MOST_MINUTES;
     case ROLE_VALUE: return MOST_VALUE;
     case ROLE_LEVEL: return MOST_LEVEL;
+    case ROLE_GROUP: return MOST_GROUP;
     default: return is_held_to_n(s, role) ? (uint32_t)s->before->n - 1 : MOST_ATOM;
     }
 }
 
 static bool is_outside(const search *s, const numeral *n) {
     if (is_held_to_n(s, n->role) && s->before->n == 0) return true;
+    if (n->role == ROLE_GROUP && n->size == 0) return true;
     return n->size > most(s, n->role);
 }
 
@@ -53,7 +56,14 @@ static void say_limit(const search *s, const numeral *n) {
     case ROLE_HIGH: say(s->said, "; LO and HI go from -%d to %d tenths", MOST_BOUND, MOST_BOUND); break;
     case ROLE_MINUTES: say(s->said, "; minutes go from -%d to %d", MOST_MINUTES, MOST_MINUTES); break;
     case ROLE_VALUE: say(s->said, "; values go up to %d, and a claim needs 0 or 1", MOST_VALUE); break;
-    case ROLE_LEVEL: say(s->said, "; levels go up to %d", MOST_LEVEL); break;
+    case ROLE_LEVEL:
+        if (s->before->groups > 1) say(s->said, " in group %zu", n->group);
+        say(s->said, "; levels go up to %d", MOST_LEVEL);
+        break;
+    case ROLE_GROUP:
+        say(s->said, "; also lines have groups 1 to %d", MOST_GROUP);
+        if (n->size == 0) say(s->said, ", and rules of group 0 are written (rule H L ...)");
+        break;
     default:
         if (!is_held_to_n(s, n->role)) say(s->said, "; atoms go up to %d", MOST_ATOM);
         if (s->before->last == KIND_NONE) break;
@@ -70,7 +80,7 @@ static void look_at(void *context, const numeral *n) {
     switch (n->role) {
     case ROLE_SIZE: say(s->said, "the number of atoms is "); break;
     case ROLE_HEAD: say(s->said, "the head of this rule is atom "); break;
-    case ROLE_LITERAL: say(s->said, "literal %zu of this %s names atom ", n->part, kinds[s->kind].word); break;
+    case ROLE_LITERAL: say(s->said, "literal %zu of this %s names atom ", n->part, is_rule(s->kind) ? "rule" : "clause"); break;
     case ROLE_LOW: say(s->said, "LO is "); break;
     case ROLE_HIGH: say(s->said, "HI is "); break;
     case ROLE_MINUTES: say(s->said, "the minutes of term %zu are ", n->part); break;
@@ -79,6 +89,7 @@ static void look_at(void *context, const numeral *n) {
     case ROLE_OPEN: say(s->said, "place %zu of this %s line names atom ", n->part, kinds[s->kind].word); break;
     case ROLE_VALUE: say(s->said, "pair %zu has the value ", n->part); break;
     case ROLE_LEVEL: say(s->said, "pair %zu has the level ", n->part); break;
+    case ROLE_GROUP: say(s->said, "the group of this line is "); break;
     }
     say_written(s, n);
     say_limit(s, n);
@@ -89,9 +100,9 @@ static void say_count(words *w, const char *what, size_t count, size_t limit) {
 }
 
 static void look_at_counts(const form *f, const reached *before, words *w) {
-    bool shares = f->kind == KIND_RULE || f->kind == KIND_CLAUSE;
+    bool shares = is_rule(f->kind) || f->kind == KIND_CLAUSE;
 
-    say_count(w, "rules", before->rows[KIND_RULE] + (f->kind == KIND_RULE), MOST_RULES);
+    say_count(w, "rules", before->rows[KIND_RULE] + before->rows[KIND_ALSO] + is_rule(f->kind), MOST_RULES);
     say_count(w, "clauses", before->rows[KIND_CLAUSE] + (f->kind == KIND_CLAUSE), MOST_CLAUSES);
     say_count(w, "load lines", before->rows[KIND_LOAD] + (f->kind == KIND_LOAD), MOST_LOADS);
     say_count(w, "literals in rules and clauses", before->literals + (shares ? f->parts : 0), BATTENPLUM_LITERALS);

@@ -1,5 +1,6 @@
 /* 1: what is malformed in a line. */
 #include "explain.h"
+#include "reached.h"
 #include "spot.h"
 
 #include <string.h>
@@ -18,6 +19,7 @@ void say_role(spot *s) {
 
     switch (s->form->role) {
     case ROLE_SIZE: say(s->said, "the number of atoms"); break;
+    case ROLE_GROUP: say(s->said, "the group"); break;
     case ROLE_HEAD: say(s->said, "the head"); break;
     case ROLE_LITERAL: say(s->said, negated ? "the atom of literal %zu" : "literal %zu", part); break;
     case ROLE_LOW: say(s->said, "LO"); break;
@@ -27,7 +29,10 @@ void say_role(spot *s) {
     case ROLE_DEFINED:
     case ROLE_OPEN: say(s->said, "the atom at place %zu", part); break;
     case ROLE_VALUE: say(s->said, "the value of pair %zu", part); break;
-    case ROLE_LEVEL: say(s->said, "the level of pair %zu", part); break;
+    case ROLE_LEVEL:
+        say(s->said, "the level of pair %zu", part);
+        if (s->groups > 1) say(s->said, " in group %zu", s->form->group);
+        break;
     }
 }
 
@@ -84,6 +89,44 @@ static bool say_blank(spot *s) {
     return true;
 }
 
+/* How many levels each pair of a claim has, up to the first that has another number than there are groups. */
+typedef struct levels {
+    size_t groups;
+    size_t pair;  /* the one that is counted, or 0 */
+    size_t count;
+    bool wrong;
+} levels;
+
+static void end_pair(levels *v) { v->wrong = v->wrong || (v->pair > 0 && v->count != v->groups); }
+
+static void count_levels(void *context, const numeral *n) {
+    levels *v = context;
+
+    if (n->role == ROLE_VALUE) {
+        end_pair(v);
+        if (v->wrong) return;
+        v->pair = n->part;
+        v->count = 0;
+    } else if (n->role == ROLE_LEVEL && !v->wrong) {
+        v->count += 1;
+    }
+}
+
+/* A claim that is well written but for the number of levels in a pair. */
+static bool say_levels(spot *s, const reached *before) {
+    levels v = {before->groups, 0, 0, false};
+    form f;
+
+    if (s->form->expected != EXPECT_NOTHING || s->form->kind != KIND_CLAIM) return false;
+    form_read(&f, s->line, count_levels, &v);
+    end_pair(&v);
+    if (!v.wrong) return false;
+    say(s->said, "pair %zu has %zu level%s and needs ", v.pair, v.count, v.count == 1 ? "" : "s");
+    if (v.groups == 1) say(s->said, "one, as no also line stands before the claim");
+    else say(s->said, "%zu, one in each group from 0 to %zu (line %zu)", v.groups, v.groups - 1, before->last_also);
+    return true;
+}
+
 static bool say_unended(spot *s) {
     if (s->form->expected != EXPECT_NOTHING) return false;
     say(s->said, "the newline (byte 10) at the end of the last line is missing");
@@ -98,20 +141,23 @@ static void say_how_written(const spot *s) {
 
 void explain_malformed(const book *b, const facts *names, explanation *e) {
     line l = line_from(b, b->position);
+    reached before;
     form f;
     spot s;
 
     e->line = line_number(b, b->position);
+    reach(&before, b, b->position);
     form_read(&f, &l, NULL, NULL);
     s.form = &f;
     s.line = &l;
     s.at = f.at;
     s.names = names;
     s.said = &e->said;
+    s.groups = before.groups;
     s.kind = f.kind;
     s.plain = false;
-    /* Most telling first. The first three are no matter of how a form is written. */
-    if (say_mark(b, &e->said) || say_blank(&s) || say_unended(&s)) return;
+    /* Most telling first. The first four are no matter of how a form is written. */
+    if (say_mark(b, &e->said) || say_blank(&s) || say_levels(&s, &before) || say_unended(&s)) return;
     if (!(say_broken(&s) || say_word(&s) || say_after(&s) || say_cut(&s) || say_in_number(&s) || say_strange(&s, s.at) ||
           say_space(&s) || say_closing(&s) || say_number(&s) || say_negation(&s) || say_misplaced(&s)))
         say(s.said, "this line is malformed at column %zu", s.at + 1);

@@ -29,7 +29,6 @@ static const char *most_inside(enum inside inside) {
     switch (inside) {
     case IN_NEGATION: return "a negation has one atom";
     case IN_TERM: return "a term has minutes and one literal";
-    case IN_PAIR: return "a pair has a value and a level";
     default: return "the atoms line has one number";
     }
 }
@@ -69,20 +68,36 @@ bool say_space(spot *s) {
 /* Whether a part at the spot must come; of the others there may be none. */
 static bool is_needed(const spot *s) {
     if (s->form->inside != IN_FORM || is_first_defined(s)) return true;
-    return s->form->role == ROLE_SIZE || s->form->role == ROLE_HEAD || s->form->role == ROLE_LOW || s->form->role == ROLE_HIGH;
+    switch (s->form->role) {
+    case ROLE_SIZE:
+    case ROLE_GROUP:
+    case ROLE_HEAD:
+    case ROLE_LOW:
+    case ROLE_HIGH: return true;
+    default: return false;
+    }
 }
+
+/* A pair that ends after its value. */
+static void say_short_pair(spot *s) {
+    if (s->groups == 1) say(s->said, "pair %zu has one number and needs two, a value and a level", s->form->parts);
+    else say(s->said, "pair %zu has one number and needs %zu, a value and a level in each of %zu groups", s->form->parts, s->groups + 1, s->groups);
+}
+
+/* Whether a level would stand here that may be left out, as far as the pair alone can tell. */
+static bool is_further_level(const spot *s) { return s->form->inside == IN_PAIR && s->form->group > 0; }
 
 bool say_closing(spot *s) {
     if (byte_here(s) != ')') return false;
     if (byte_before(s) == '(') {
         say(s->said, "the brackets at column %zu are empty", s->at);
-    } else if (byte_before(s) == ' ' && !is_needed(s)) {
+    } else if (byte_before(s) == ' ' && (!is_needed(s) || is_further_level(s))) {
         say(s->said, "a space stands before the closing bracket, at column %zu", s->at);
         s->plain = true;
     } else if (s->form->inside == IN_TERM) {
         say(s->said, "term %zu has one part and needs two, minutes and a literal", s->form->parts);
     } else if (s->form->inside == IN_PAIR) {
-        say(s->said, "pair %zu has one number and needs two, a value and a level", s->form->parts);
+        say_short_pair(s);
     } else if (is_first_defined(s)) {
         say_no_atom(s);
     } else {
@@ -195,10 +210,10 @@ static void say_junction(spot *s, const char *word, enum kind fitting) {
 
     say(s->said, "\"%s\" stands at column %zu; ", word, s->at + 1);
     if (kind == KIND_LOAD) say(s->said, "a term has one literal");
-    else if (kind == KIND_RULE) say(s->said, "a body is true if all its literals are");
+    else if (is_rule(kind)) say(s->said, "a body is true if all its literals are");
     else say(s->said, "a clause holds if one of its literals is true");
-    if (kind == fitting) say(s->said, ", so list them");
-    else if (kind != KIND_LOAD) say(s->said, ", so write a %s for each case", kinds[kind].word);
+    if (kind == fitting || (is_rule(kind) && is_rule(fitting))) say(s->said, ", so list them");
+    else if (kind != KIND_LOAD) say(s->said, ", so write %s for each case", kinds[kind].one);
 }
 
 bool say_negation(spot *s) {
@@ -225,7 +240,7 @@ bool say_misplaced(spot *s) {
     switch (s->form->expected) {
     case EXPECT_OPENING:
         say(s->said, "%s %zu does not begin with a bracket, at column %zu; ", is_load ? "term" : "pair", s->form->parts, s->at + 1);
-        say(s->said, is_load ? "a term is (M L)" : "a pair is (V K)");
+        say(s->said, is_load ? "a term is (M L)" : s->groups == 1 ? "a pair is (V K)" : "a pair is (V K ...)");
         return true;
     case EXPECT_CLOSING: say(s->said, "a closing bracket is missing at column %zu", s->at + 1); return true;
     case EXPECT_SPACE:

@@ -22,6 +22,20 @@ static void look_at(void *context, const numeral *n) {
     r->before = n->size;
 }
 
+static void take_group(void *context, const numeral *n) {
+    if (n->role == ROLE_GROUP) *(size_t *)context = n->size;
+}
+
+/* An also line whose group is below that of the also line before it. */
+static void say_falling(words *w, const line *l, const reached *before) {
+    size_t group = 0;
+    form f;
+
+    form_read(&f, l, take_group, &group);
+    if (group + 1 < before->groups)
+        say(w, "the groups of also lines must not fall: %zu stands after %zu (line %zu)", group, before->groups - 1, before->last_also);
+}
+
 /* The first line of a kind that may not stand before this one, or 0. */
 static size_t line_in_the_way(const reached *before, enum kind kind, enum kind *other) {
     enum kind later;
@@ -58,7 +72,7 @@ static void say_kind(words *w, const reached *before, enum kind kind) {
         at = line_in_the_way(before, kind, &other);
         if (at == 0) return;
         say(w, "%s stands after %s (line %zu); ", kinds[kind].one, kinds[other].one, at);
-        say(w, kind == KIND_DEFINED ? "it belongs right after the atoms line" : "the order is rules, clauses, load lines");
+        say(w, kind == KIND_DEFINED ? "it belongs right after the atoms line" : "the order is rules, also lines, clauses, load lines");
     }
 }
 
@@ -88,6 +102,7 @@ void explain_order(const book *b, explanation *e) {
     form_read(&f, &l, NULL, NULL);
     r.atoms = f.kind == KIND_DEFINED ? "the atoms of a defined line" : "the open atoms";
     say_kind(&e->said, &before, f.kind);
+    if (e->said.length == 0 && f.kind == KIND_ALSO) say_falling(&e->said, &l, &before);
     if (e->said.length == 0) form_read(&f, &l, look_at, &r);
     if (e->said.length == 0 && f.kind == KIND_CLAIM && f.parts != before.n) say_pairs(&e->said, f.parts, before.n);
 }

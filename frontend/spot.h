@@ -12,6 +12,7 @@ typedef struct spot {
     size_t at;
     const facts *names;
     words *said;
+    size_t groups;  /* of the lines before */
     enum kind kind; /* the form that is meant */
     bool plain;     /* how that form is written would add nothing */
 } spot;

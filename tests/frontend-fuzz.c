@@ -16,7 +16,7 @@
 #include "input.h"
 #include "warn.h"
 
-#define NUMBERS 28
+#define NUMBERS 36
 
 /* One in so many damaged books is left in the folder. */
 #define LEFT_ONE_IN 100
@@ -38,7 +38,7 @@ static void put(book *b, size_t at, size_t cut, const void *bytes, size_t length
 }
 
 static void damage_byte(book *b) {
-    static const char often[] = " ()-0123456789\n\t\r;#,.ARnotruleclauseopen";
+    static const char often[] = " ()-0123456789\n\t\r;#,.ARnotrulealsoclauseopen";
     size_t at = chance(b->length + 1);
     uint8_t byte = chance(4) == 0 ? (uint8_t)chance(256) : (uint8_t)often[chance(sizeof often - 1)];
 

@@ -3,7 +3,8 @@
  * Every text is read into tables, by the struct and by the plain call. Open facts are evaluated and what comes out is checked; a claim
  * is checked. Both must come to the verdict on the text. Either claim is written back with the book, and what was written is read again.
  * The index of each book is held against a look at every place of every rule. The evaluation that follows the index is held against the
- * other one, and its counts against a look at every literal of every rule.
+ * other one, and its counts against a look at every literal of every rule. Books of several groups are checked, written and indexed, and
+ * both evaluations refuse them.
  * Prints how many claims were made and accepted.
  */
 #include <stdio.h>
@@ -14,7 +15,7 @@
 static uint8_t text[BATTENPLUM_TEXT_MAX + 1], page[BATTENPLUM_PAGE_SIZE];
 static battenplum_storage room, again;
 static uint8_t values[BATTENPLUM_ATOMS], plain_values[BATTENPLUM_ATOMS], marks[BATTENPLUM_ATOMS + 1];
-static uint16_t levels[BATTENPLUM_ATOMS], work[BATTENPLUM_ATOMS];
+static uint16_t levels[BATTENPLUM_LEVELS + 1], work[BATTENPLUM_ATOMS];
 static uint8_t written[BATTENPLUM_TEXT_MAX + 2];
 /* One more than any index has of either. */
 static uint16_t starts[BATTENPLUM_STARTS(BATTENPLUM_ATOMS) + 1], entries[BATTENPLUM_LITERALS + 1];
@@ -38,7 +39,8 @@ static void constants(void) {
     static const uint32_t numbers[] = {
         BATTENPLUM_ACCEPTED,       BATTENPLUM_MALFORMED,       BATTENPLUM_OUTSIDE_LIMITS, BATTENPLUM_OUT_OF_ORDER,
         BATTENPLUM_NO_SPACE,       BATTENPLUM_BAD_SIZES,       BATTENPLUM_BAD_RULE_ROW,   BATTENPLUM_BAD_CLAUSE_ROW,
-        BATTENPLUM_BAD_LOAD_ROW,   BATTENPLUM_BAD_LITERAL,     BATTENPLUM_BAD_TERM,       BATTENPLUM_BAD_LENGTH,
+        BATTENPLUM_BAD_LOAD_ROW,   BATTENPLUM_BAD_LITERAL,     BATTENPLUM_BAD_TERM,       BATTENPLUM_BAD_GROUP,
+        BATTENPLUM_OTHER_GROUP,    BATTENPLUM_BAD_LENGTH,
         BATTENPLUM_BAD_MARK,       BATTENPLUM_TEXT_SIZE,       BATTENPLUM_INDEX_SIZE,     BATTENPLUM_BAD_VALUE,
         BATTENPLUM_BAD_LEVEL,      BATTENPLUM_UNSUPPORTED,     BATTENPLUM_UNBLOCKED,      BATTENPLUM_UNDECIDED,
         BATTENPLUM_FAILING_CLAUSE, BATTENPLUM_FAILING_LOAD};
@@ -55,12 +57,13 @@ static void constants(void) {
     hold(BATTENPLUM_NUMBER(0x001B0102u) == BATTENPLUM_FAILING_LOAD && BATTENPLUM_POSITION(0x001B0102u) == 0x0102, "a verdict is taken apart wrongly");
     hold(battenplum_rounds((uint64_t)7 << 32 | 0x00190001u) == 7, "rounds are taken out wrongly");
     hold(battenplum_length((uint64_t)BATTENPLUM_TEXT_MAX << 32) == BATTENPLUM_TEXT_MAX, "a length is taken out wrongly");
-    hold(BATTENPLUM_RULE_ROWS * 3 == BATTENPLUM_RULE_ENTRIES, "the most rules are not those of the table");
+    hold(BATTENPLUM_RULE_ROWS * 4 == BATTENPLUM_RULE_ENTRIES, "the most rules are not those of the table");
+    hold(BATTENPLUM_ATOMS * BATTENPLUM_GROUPS == BATTENPLUM_LEVELS, "the most levels are not those of all atoms in all groups");
     hold(sizeof room.loads == BATTENPLUM_LOAD_ENTRIES * sizeof(int32_t) && sizeof room.rules == BATTENPLUM_RULE_ENTRIES * sizeof(uint16_t)
              && sizeof room.literals == BATTENPLUM_LITERALS * sizeof(uint16_t) && sizeof room.clauses == BATTENPLUM_CLAUSE_ENTRIES * sizeof(uint16_t)
              && sizeof room.load_literals == BATTENPLUM_TERMS * sizeof(uint16_t) && sizeof room.minutes == BATTENPLUM_TERMS * sizeof(int16_t)
              && sizeof room.marks == BATTENPLUM_ATOMS && sizeof room.values == BATTENPLUM_ATOMS
-             && sizeof room.levels == BATTENPLUM_ATOMS * sizeof(uint16_t),
+             && sizeof room.levels == BATTENPLUM_LEVELS * sizeof(uint16_t),
          "the storage does not have its sizes");
 
     memset(text, 'x', sizeof text);
@@ -73,7 +76,7 @@ static uint32_t read_again(size_t length, size_t marks_room, uint32_t *answer) {
     return battenplum_read(text, length, again.rules, BATTENPLUM_RULE_ENTRIES, again.literals, BATTENPLUM_LITERALS, again.clauses,
                            BATTENPLUM_CLAUSE_ENTRIES, again.loads, BATTENPLUM_LOAD_ENTRIES, again.load_literals, BATTENPLUM_TERMS,
                            again.minutes, BATTENPLUM_TERMS, again.marks, marks_room, again.values, BATTENPLUM_ATOMS, again.levels,
-                           BATTENPLUM_ATOMS, answer, BATTENPLUM_ANSWER_PLACES);
+                           BATTENPLUM_LEVELS, answer, BATTENPLUM_ANSWER_PLACES);
 }
 
 /* The call below the struct: it reads the same, and refuses short tables and a short answer. */
@@ -94,13 +97,16 @@ static void plain_read(size_t length, const battenplum_tables *book, uint32_t st
              && answer[BATTENPLUM_ANSWER_LITERALS] == book->literals_len && answer[BATTENPLUM_ANSWER_CLAUSES] == book->clauses_len
              && answer[BATTENPLUM_ANSWER_LOADS] == book->loads_len && answer[BATTENPLUM_ANSWER_TERMS] == book->load_literals_len
              && answer[BATTENPLUM_ANSWER_TERMS] == book->minutes_len && answer[BATTENPLUM_ANSWER_ATOMS] == book->marks_len
-             && answer[BATTENPLUM_ANSWER_STATE] == state,
+             && answer[BATTENPLUM_ANSWER_STATE] == state
+             && answer[BATTENPLUM_ANSWER_GROUPS] == battenplum_groups(book->rules, book->rules_len),
          "the plain call answers something else");
     hold(memcmp(&room, &again, sizeof room) == 0, "the plain call fills the tables otherwise");
 
     verdict = battenplum_read(text, length, NULL, 0, NULL, 0, NULL, 0, NULL, 0, NULL, 0, NULL, 0, NULL, 0, NULL, 0, NULL, 0, answer,
                               BATTENPLUM_ANSWER_PLACES);
-    hold(BATTENPLUM_NUMBER(verdict) == BATTENPLUM_NO_SPACE && answer[BATTENPLUM_ANSWER_ATOMS] == 0, "tables without room are filled");
+    hold(BATTENPLUM_NUMBER(verdict) == BATTENPLUM_NO_SPACE && answer[BATTENPLUM_ANSWER_ATOMS] == 0
+             && answer[BATTENPLUM_ANSWER_GROUPS] == 0,
+         "tables without room are filled");
     verdict = battenplum_read(text, length, NULL, 0, NULL, 0, NULL, 0, NULL, 0, NULL, 0, NULL, 0, NULL, 0, NULL, 0, NULL, 0, answer,
                               BATTENPLUM_ANSWER_PLACES - 1);
     hold(verdict == BATTENPLUM_NO_ANSWER, "a short answer is filled");
@@ -131,7 +137,7 @@ static void bad_marks(const battenplum_tables *book) {
          "a mark of 2 is not noticed in an evaluation");
     hold(BATTENPLUM_NUMBER(battenplum_check(bad.n, bad.rules, bad.rules_len, bad.literals, bad.literals_len, bad.clauses, bad.clauses_len, bad.loads,
                                             bad.loads_len, bad.load_literals, bad.load_literals_len, bad.minutes, bad.minutes_len, bad.marks,
-                                            bad.marks_len, values, bad.n, levels, bad.n - 1)) == BATTENPLUM_BAD_LENGTH,
+                                            bad.marks_len, values, bad.n, levels, battenplum_levels(&bad) - 1)) == BATTENPLUM_BAD_LENGTH,
          "a mark of 2 comes before levels that are too short");
 }
 
@@ -162,7 +168,8 @@ static int reads_as(size_t length, const battenplum_tables *book, const uint8_t 
            && memcmp(back.loads, book->loads, back.loads_len * sizeof(int32_t)) == 0
            && memcmp(back.load_literals, book->load_literals, back.load_literals_len * sizeof(uint16_t)) == 0
            && memcmp(back.minutes, book->minutes, back.minutes_len * sizeof(int16_t)) == 0 && memcmp(back.marks, book->marks, back.n) == 0
-           && memcmp(again.values, claimed, back.n) == 0 && memcmp(again.levels, at, back.n * sizeof(uint16_t)) == 0;
+           && memcmp(again.values, claimed, back.n) == 0 && battenplum_levels(&back) == battenplum_levels(book)
+           && memcmp(again.levels, at, battenplum_levels(&back) * sizeof(uint16_t)) == 0;
 }
 
 /* A book that was read, written back with a claim: into more than enough bytes, just enough, one too few and none. Returns the length. */
@@ -178,10 +185,10 @@ static size_t write_back(const battenplum_tables *book, const uint8_t *claimed, 
     if (length == 0) return 0;
     hold(untouched_from(length), "bytes behind the text are written");
     hold(reads_as(length, book, claimed, at), "what was written is not read as it was");
-    hold(plain_write(book, claimed, at, book->n, length - 1) == too_short, "a buffer one byte too short is not refused");
+    hold(plain_write(book, claimed, at, battenplum_levels(book), length - 1) == too_short, "a buffer one byte too short is not refused");
     hold(untouched_from(0), "a buffer one byte too short is written to");
     hold(battenplum_write_tables(book, claimed, at, NULL, 0) == too_short, "a null buffer is not refused");
-    hold(plain_write(book, claimed, at, book->n, length) == answer && untouched_from(length), "a buffer of just the length is not enough");
+    hold(plain_write(book, claimed, at, battenplum_levels(book), length) == answer && untouched_from(length), "a buffer of just the length is not enough");
     hold(reads_as(length, book, claimed, at), "the plain call writes otherwise");
     return length;
 }
@@ -194,9 +201,9 @@ static void bad_writes(const battenplum_tables *book, const uint8_t *claimed, co
     memcpy(marks, book->marks, book->n);
     marks[book->n - 1] = 2;
     bad.marks = marks;
-    hold(plain_write(&bad, claimed, at, bad.n - 1, 0) == (uint32_t)BATTENPLUM_BAD_LENGTH << 16, "levels that are too short are written");
-    hold(plain_write(&bad, claimed, at, bad.n, 0) == bad_mark, "a buffer without room comes before a mark of 2");
-    hold(plain_write(&bad, claimed, at, bad.n, sizeof written) == bad_mark && untouched_from(0), "a book with a mark of 2 is written");
+    hold(plain_write(&bad, claimed, at, battenplum_levels(&bad) - 1, 0) == (uint32_t)BATTENPLUM_BAD_LENGTH << 16, "levels that are too short are written");
+    hold(plain_write(&bad, claimed, at, battenplum_levels(&bad), 0) == bad_mark, "a buffer without room comes before a mark of 2");
+    hold(plain_write(&bad, claimed, at, battenplum_levels(&bad), sizeof written) == bad_mark && untouched_from(0), "a book with a mark of 2 is written");
 }
 
 /* The claim as the text has it gives the text's bytes; values and levels that no check would pass are written too. */
@@ -205,10 +212,8 @@ static void written_claims(size_t length, const battenplum_tables *book) {
 
     hold(write_back(book, room.values, room.levels) == length && memcmp(written, text, length) == 0, "the text is not written as it was");
     bad_writes(book, room.values, room.levels);
-    for (i = 0; i < book->n; i++) {
-        values[i] = (uint8_t)(255 - i);
-        levels[i] = (uint16_t)(65535 - i);
-    }
+    for (i = 0; i < book->n; i++) values[i] = (uint8_t)(255 - i);
+    for (i = 0; i < battenplum_levels(book); i++) levels[i] = (uint16_t)(65535 - i);
     write_back(book, values, levels);
 }
 
@@ -234,7 +239,7 @@ static int has_length(const battenplum_tables *book, uint16_t level, size_t leng
 static void largest(void) {
     static const char small[] = "(atoms 1)\n(claim (0 0))\n";
     const size_t length = sizeof small - 1, two_rules = 2 * 9, two_loads = 2 * 11;
-    uint16_t rules[6] = {0, 0, BATTENPLUM_LITERALS - 1, 0, 7, 1};
+    uint16_t rules[8] = {0, 0, BATTENPLUM_LITERALS - 1, 0, 0, 7, 1, 0};
     int32_t loads[8] = {0, 0, 0, BATTENPLUM_TERMS - 1, 0, 0, 9, 1};
     battenplum_tables book;
     uint32_t state;
@@ -253,10 +258,10 @@ static void largest(void) {
     hold(has_length(&book, 0, 0), "one term too many is written");
     book.loads_len = 0;
     book.rules = rules;
-    book.rules_len = 6;
+    book.rules_len = 8;
     book.literals_len = BATTENPLUM_LITERALS;
     hold(has_length(&book, 0, length + two_rules + 2 * BATTENPLUM_LITERALS), "the most literals are not written");
-    rules[5]++;
+    rules[6]++;
     hold(has_length(&book, 0, 0), "one literal too many is written");
 
     /* 8,186 literals (not 0) of 8 bytes each, and 5 bytes more in the claim. */
@@ -285,13 +290,13 @@ static int unindexed_from(size_t start, size_t entry) {
 
 /* The index that was built last is what a look at every place of every rule finds, literal by literal. */
 static int tells_users(const battenplum_tables *book) {
-    const size_t rules = book->rules_len / 3;
+    const size_t rules = book->rules_len / 4;
     size_t literal, rule, place, next = 0;
 
     for (literal = 0; literal < 2 * book->n; literal++) {
         if (starts[literal] != next) return 0;
         for (rule = 0; rule < rules; rule++) {
-            const uint16_t *row = book->rules + 3 * rule;
+            const uint16_t *row = book->rules + 4 * rule;
             for (place = 0; place < row[2]; place++)
                 if (book->literals[row[1] + place] == literal && entries[next++] != rule) return 0;
         }
@@ -356,11 +361,11 @@ static int stopped(uint64_t answer, uint32_t verdict) { return answer == verdict
 
 /* The counts are what a look at every literal of every rule finds not to be true in the model. */
 static int tells_lacking(const battenplum_tables *book) {
-    const size_t rules = book->rules_len / 3;
+    const size_t rules = book->rules_len / 4;
     size_t rule, place;
 
     for (rule = 0; rule < rules; rule++) {
-        const uint16_t *row = book->rules + 3 * rule;
+        const uint16_t *row = book->rules + 4 * rule;
         size_t lacking = 0;
         for (place = 0; place < row[2]; place++) {
             const unsigned literal = book->literals[row[1] + place];
@@ -381,13 +386,13 @@ static int follows(const battenplum_tables *book, uint64_t answer, uint64_t made
         return stopped(answer, (uint32_t)made);
     return memcmp(followed_values, model, book->n) == 0 && memcmp(followed_levels, model_levels, book->n * sizeof(uint16_t)) == 0
            && memcmp(followed_work, model_work, book->n * sizeof(uint16_t)) == 0 && tells_users(book) && tells_lacking(book)
-           && unfollowed_from(book->n, BATTENPLUM_STARTS(book->n), battenplum_entries(book->rules, book->rules_len), book->rules_len / 3);
+           && unfollowed_from(book->n, BATTENPLUM_STARTS(book->n), battenplum_entries(book->rules, book->rules_len), book->rules_len / 4);
 }
 
 /* Lengths that are one off: of the counts 17, of the index 33. 31 stands between them, and 21 behind both. */
 static void bad_lengths(const battenplum_tables *book, const uint8_t *open) {
     const size_t starts_due = BATTENPLUM_STARTS(book->n), entries_due = battenplum_entries(book->rules, book->rules_len);
-    const size_t rows = book->rules_len / 3;
+    const size_t rows = book->rules_len / 4;
     const uint32_t bad_counts = (uint32_t)BATTENPLUM_BAD_LENGTH << 16, bad_index = (uint32_t)BATTENPLUM_INDEX_SIZE << 16;
     battenplum_tables bad = *book;
 
@@ -413,7 +418,7 @@ static void bad_lengths(const battenplum_tables *book, const uint8_t *open) {
 static void followed(const battenplum_tables *book, const uint8_t *open) {
     const size_t entries_due = battenplum_entries(book->rules, book->rules_len);
     const uint64_t made = battenplum_evaluate_tables(book, open, model, model_levels, model_work);
-    uint64_t answer = plain_follow(book, open, BATTENPLUM_STARTS(book->n), entries_due, book->rules_len / 3);
+    uint64_t answer = plain_follow(book, open, BATTENPLUM_STARTS(book->n), entries_due, book->rules_len / 4);
 
     hold(follows(book, answer, made), "the evaluation by the index comes to something else");
     fill_followed();
@@ -427,7 +432,7 @@ static void followed(const battenplum_tables *book, const uint8_t *open) {
 /* The largest index, and one literal more. Rules share their bodies, which count for each. */
 static void largest_index(void) {
     static const char small[] = "(atoms 1)\n(claim (0 0))\n";
-    uint16_t rules[6] = {0, 0, BATTENPLUM_LITERALS - 1, 0, 7, 1};
+    uint16_t rules[8] = {0, 0, BATTENPLUM_LITERALS - 1, 0, 0, 7, 1, 0};
     battenplum_tables book;
     uint32_t state;
 
@@ -436,12 +441,12 @@ static void largest_index(void) {
     hold(battenplum_read_tables((const uint8_t *)small, sizeof small - 1, &room, &book, &state) == BATTENPLUM_ACCEPTED, "two lines are not read");
     indexed(&book);
     book.rules = rules;
-    book.rules_len = 6;
+    book.rules_len = 8;
     book.literals_len = BATTENPLUM_LITERALS;
-    hold(battenplum_entries(rules, 6) == BATTENPLUM_LITERALS, "the bodies are counted otherwise");
+    hold(battenplum_entries(rules, 8) == BATTENPLUM_LITERALS, "the bodies are counted otherwise");
     indexed(&book);
     followed(&book, room.values);
-    rules[5]++;
+    rules[6]++;
     hold(plain_index(&book, BATTENPLUM_STARTS(1), BATTENPLUM_LITERALS + 1) == (uint32_t)BATTENPLUM_INDEX_SIZE << 16 && unindexed_from(0, 0),
          "one literal too many is indexed");
     hold(battenplum_index_tables(&book, starts, entries) == (uint32_t)BATTENPLUM_INDEX_SIZE << 16 && unindexed_from(0, 0),
@@ -479,8 +484,8 @@ static void changed(void) {
 
     file_name = "a changed book";
     hold(battenplum_read_tables((const uint8_t *)before, sizeof before - 1, &room, &book, &state) == BATTENPLUM_ACCEPTED, "it is not read");
-    book.rules += 3;
-    book.rules_len -= 3;
+    book.rules += 4;
+    book.rules_len -= 4;
     room.marks[1] = 1;
     book.n = book.marks_len = 4;
     room.marks[3] = 0;
@@ -489,6 +494,66 @@ static void changed(void) {
     hold((uint32_t)battenplum_evaluate_tables(&book, room.values, values, levels, work) == BATTENPLUM_ACCEPTED, "no claim is made for it");
     hold(write_back(&book, values, levels) == sizeof after - 1 && memcmp(written, after, sizeof after - 1) == 0, "it is written otherwise");
     hold(battenplum_verdict(written, sizeof after - 1) == BATTENPLUM_ACCEPTED, "its claim is not right");
+}
+
+/* Both evaluations refuse a book of several groups at its first rule of another group than 0, before lengths and marks are looked at. */
+static void not_made(const battenplum_tables *book) {
+    uint32_t first = 0;
+    battenplum_tables bad = *book;
+
+    while (book->rules[4 * first + 3] == 0) first++;
+    first |= (uint32_t)BATTENPLUM_OTHER_GROUP << 16;
+    bad.marks_len = 0;
+    memset(setting, 2, sizeof setting);
+    hold(battenplum_evaluate_tables(&bad, setting, model, model_levels, model_work) == first, "a book of several groups is evaluated");
+    hold(stopped(plain_follow(&bad, setting, 0, 0, 0), first), "a book of several groups is evaluated by the index");
+    fill_followed();
+    hold(stopped(battenplum_evaluate_indexed_tables(book, setting, followed_values, followed_levels, followed_work, starts, entries, counts), first),
+         "the struct's call evaluates a book of several groups");
+}
+
+/* Rows of several groups: how many there are, the levels that a claim needs, and a group above 7. */
+static void groups(void) {
+    static const char two[] = "(atoms 2)\n(rule 0 1)\n(also 1 1 0)\n(claim (1 1 0) (1 0 1))\n";
+    static const char turned[] = "(atoms 2)\n(rule 1)\n(also 1 0)\n(also 7 1)\n(claim (1 0 1 0 0 0 0 0 0) (1 1 0 0 0 0 0 0 1))\n";
+    const uint32_t no_group = (uint32_t)BATTENPLUM_BAD_GROUP << 16;
+    uint16_t rules[12] = {1, 0, 0, 7, 0, 0, 0, 1, 1, 0, 0, 0};
+    battenplum_tables book;
+    uint32_t state;
+    size_t i;
+
+    file_name = "several groups";
+    hold(battenplum_groups(NULL, 0) == 1 && battenplum_groups(rules + 8, 4) == 1 && battenplum_groups(rules + 4, 8) == 2
+             && battenplum_groups(rules, 12) == BATTENPLUM_GROUPS,
+         "the groups are counted otherwise");
+    hold(battenplum_read_tables((const uint8_t *)two, sizeof two - 1, &room, &book, &state) == BATTENPLUM_ACCEPTED, "it is not read");
+    hold(battenplum_levels(&book) == 4 && room.levels[0] == 1 && room.levels[1] == 0 && room.levels[2] == 0 && room.levels[3] == 1,
+         "levels do not stand group by group");
+    hold(battenplum_check_tables(&book, room.values, room.levels) == BATTENPLUM_ACCEPTED, "its claim is refused");
+    hold(battenplum_check(book.n, book.rules, book.rules_len, book.literals, book.literals_len, book.clauses, book.clauses_len, book.loads,
+                          book.loads_len, book.load_literals, book.load_literals_len, book.minutes, book.minutes_len, book.marks,
+                          book.marks_len, room.values, book.n, room.levels, book.n) == (uint32_t)BATTENPLUM_BAD_LENGTH << 16,
+         "levels of one group are enough for two");
+
+    /* Written by rising group, and read back in that order. */
+    book.rules = rules;
+    book.rules_len = 12;
+    book.literals_len = 0;
+    values[0] = values[1] = 1;
+    for (i = 0; i < battenplum_levels(&book); i++) levels[i] = (uint16_t)(i == 1 || i == 2 || i == 15);
+    hold(battenplum_length(battenplum_write_tables(&book, values, levels, written, sizeof written)) == sizeof turned - 1
+             && memcmp(written, turned, sizeof turned - 1) == 0,
+         "the rows are not written by rising group");
+    hold(battenplum_verdict(written, sizeof turned - 1) == BATTENPLUM_ACCEPTED && battenplum_check_tables(&book, values, levels) == BATTENPLUM_ACCEPTED,
+         "the claim on eight groups is refused");
+    not_made(&book);
+
+    rules[7] = BATTENPLUM_GROUPS;
+    hold(battenplum_groups(rules, 12) == BATTENPLUM_GROUPS + 1 && battenplum_levels(&book) == 0, "a group above 7 has levels");
+    hold(battenplum_check_tables(&book, values, levels) == (no_group | 1), "a group above 7 is checked");
+    hold(battenplum_write_tables(&book, values, levels, written, sizeof written) == (no_group | 1), "a group above 7 is written");
+    hold(battenplum_evaluate_tables(&book, values, model, model_levels, model_work) == (no_group | 1), "a group above 7 is evaluated");
+    hold(battenplum_index_tables(&book, starts, entries) == (no_group | 1), "a group above 7 is indexed");
 }
 
 /* Returns 1 if a claim was made and accepted. */
@@ -510,7 +575,8 @@ static int one_book(size_t length) {
     hold(battenplum_read_tables(text, length, &room, &book, &state) == BATTENPLUM_ACCEPTED, "the text is not read");
     plain_read(length, &book, state);
     indexed(&book);
-    followed(&book, room.values);
+    if (battenplum_groups(book.rules, book.rules_len) == 1) followed(&book, room.values);
+    else not_made(&book);
     hold(state != BATTENPLUM_STATE_NONE, "the text has neither open facts nor a claim");
     if (state == BATTENPLUM_STATE_CLAIM) {
         hold(battenplum_check_tables(&book, room.values, room.levels) == whole, "the claim's verdict is not the text's");
@@ -518,6 +584,7 @@ static int one_book(size_t length) {
         return 0;
     }
     hold(state == BATTENPLUM_STATE_OPEN, "the text ends in no known way");
+    if (BATTENPLUM_NUMBER(whole) == BATTENPLUM_OTHER_GROUP) return 0;
 
     memset(values, 0xAA, sizeof values);
     memset(plain_values, 0xAA, sizeof plain_values);
@@ -547,10 +614,15 @@ static int one_book(size_t length) {
 static void every_form(void) {
     static const char all[] = "(atoms 3)\n(defined 0 2)\n(rule 1)\n(rule 1 0 (not 2))\n(clause)\n(clause (not 1) 1)\n(load -1000000 1000000)\n"
                               "(load 0 -1 (-1440 0) (1440 (not 1)) (0 2) (-9 2))\n(claim (255 65535) (0 0) (10 100))\n";
+    static const char also[] = "(atoms 3)\n(defined 0 2)\n(rule 1)\n(also 1 1)\n(also 1 0 1 (not 2))\n(also 6 2)\n(clause)\n(load 0 -1 (1440 0))\n"
+                               "(claim (255 65535 1 2 3 4 5 6) (0 0 0 0 0 0 0 0) (10 100 9 8 7 6 5 65535))\n";
 
     file_name = "every form";
     memcpy(text, all, sizeof all - 1);
     one_book(sizeof all - 1);
+    file_name = "every form, with groups";
+    memcpy(text, also, sizeof also - 1);
+    one_book(sizeof also - 1);
 }
 
 int main(int argc, char **argv) {
@@ -561,6 +633,7 @@ int main(int argc, char **argv) {
     largest_index();
     nothing_read();
     changed();
+    groups();
     every_form();
     for (i = 1; i < argc; i++) {
         FILE *file = fopen(argv[i], "rb");

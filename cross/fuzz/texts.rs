@@ -59,6 +59,7 @@ fn write_back(session: &mut Session, text: &[u8], read: Read) -> Compared {
     if read.state == State::None {
         return Ok(());
     }
-    let levels = read.values.iter().map(|_| session.random.draw() as u16 >> session.random.below(16)).collect();
+    let count = read.values.len() * read.groups;
+    let levels = (0..count).map(|_| session.random.draw() as u16 >> session.random.below(16)).collect();
     session.tables_back(&read.book, &Claim { values: read.values, levels })
 }

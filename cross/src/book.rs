@@ -24,6 +24,17 @@ impl Verdict {
     }
 }
 
+/// The entries of a rule row: head, start, count, group.
+pub const RULE_WIDTH: usize = 4;
+
+/// The places of what a reading answers.
+pub const ANSWER_PLACES: usize = 8;
+
+/// Rule rows of group 0, each given by its head, start and count.
+pub fn in_group_0(rows: &[u16]) -> Vec<u16> {
+    rows.chunks_exact(3).flat_map(|row| [row[0], row[1], row[2], 0]).collect()
+}
+
 /// N and the seven tables of a book, in the paper's layout. Any content and any lengths, sound or not.
 #[derive(Clone, PartialEq, Eq, Hash, Debug, Default)]
 pub struct Book {
@@ -45,7 +56,7 @@ impl Book {
     }
 }
 
-/// Values and levels as a planner claims them, or as the maker writes them.
+/// Values and levels as a planner claims them, or as the maker writes them. Levels are one for each atom in each group, group 0's first.
 #[derive(Clone, PartialEq, Eq, Debug, Default)]
 pub struct Claim {
     pub values: Vec<u8>,
@@ -87,7 +98,7 @@ pub struct Lengths {
 impl Lengths {
     /// Tables of full size: they hold every book.
     pub const FULL: Lengths = Lengths {
-        rules: 6_144,
+        rules: 8_192,
         literals: 16_384,
         clauses: 4_096,
         loads: 256,
@@ -95,17 +106,18 @@ impl Lengths {
         minutes: 4_096,
         marks: 1_024,
         values: 1_024,
-        levels: 1_024,
+        levels: 8_192,
     };
 }
 
-/// What the reader answers: for an accepted text the book, the state form and its values (N of them) and, for a claim, its levels;
-/// for a refused one an empty book, `State::None` and nothing else.
+/// What the reader answers: for an accepted text the book, the state form, its number of groups and its values (N of them) and, for a
+/// claim, its levels (N for each group); for a refused one an empty book, `State::None`, no group and nothing else.
 #[derive(Clone, PartialEq, Eq, Debug, Default)]
 pub struct Read {
     pub verdict: Verdict,
     pub book: Book,
     pub state: State,
+    pub groups: usize,
     pub values: Vec<u8>,
     pub levels: Vec<u16>,
 }

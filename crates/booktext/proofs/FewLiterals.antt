@@ -14,9 +14,8 @@ use Rattle.tables.specs.Limits.{max_literals}
 use Rattle.tables.specs.Rows.{rule_count, rule_size, literals_by_rule}
 use Rattle.tables.specs.Sound.{lent}
 use Rattle.tables.proofs.Faults.{refused_accepted}
-use Rattle.format.specs.declared.kinds.Kind.TheVariants.{Rule}
 use Rattle.format.specs.Forms.{Form}
-use Rattle.format.specs.Views.{view_of, of_kind}
+use Rattle.format.specs.Views.{view_of, kind_in, rule_kind}
 use Rattle.judging.specs.declared.reached.Reached.{Reached}
 use Rattle.judging.specs.declared.reached.Space.{Space}
 use Rattle.judging.specs.declared.reached.Judged.{Judged}
@@ -39,15 +38,15 @@ use Rattle.booktext.proofs.UsedLaws.{used_part, laid_used}
 -- ── Forms ──
 
 -- A row before others adds its count.
-row_adds : (head first size : ℕ) (rest : List ℕ) → literals_by_rule (head ∷ first ∷ size ∷ rest) ≡ size + literals_by_rule rest
+row_adds : (head first size group : ℕ) (rest : List ℕ) → literals_by_rule (head ∷ first ∷ size ∷ group ∷ rest) ≡ size + literals_by_rule rest
 unfolding literals_by_rule rule_count rule_size
-row_adds head first size rest =
-    let row : List ℕ = head ∷ first ∷ size ∷ [] in
+row_adds head first size group rest =
+    let row : List ℕ = head ∷ first ∷ size ∷ group ∷ [] in
     let rows = row ++ rest in
     let many : rule_count rows ≡ suc (rule_count rest) = omega arith in
     ap (λ (n : ℕ). sum_below n (rule_size rows)) many
     ∙ (sum_front (rule_count rest) (rule_size rows)
-    ∙ ap (λ (m : ℕ). size + m) (sum_same (rule_count rest) _ _ (λ k l. beyond_row row rest (suc k * 3 + 2) (k * 3 + 2) 0 (omega arith))))
+    ∙ ap (λ (m : ℕ). size + m) (sum_same (rule_count rest) _ _ (λ k l. beyond_row row rest (suc k * 4 + 2) (k * 4 + 2) 0 (omega arith))))
 
 no_rows : literals_by_rule [] ≡ 0
 unfolding literals_by_rule rule_count sum_below
@@ -58,13 +57,13 @@ form_few :
     (s : Reached) (f : Form) (later : Contents) →
     literals_by_rule (joined (entries_of s f) later Rules) ≤ length (view_of f).literals + literals_by_rule (later Rules)
 unfolding joined joined_by given_anew entries_of rule_row
-form_few s f later = step (of_kind Rule f)
+form_few s f later = step (rule_kind (kind_in f))
   where
     step :
         (b : Bool) →
-        literals_by_rule (cond b ((view_of f).head ∷ s.literals ∷ length (view_of f).literals ∷ []) [] ++ later Rules)
+        literals_by_rule (cond b ((view_of f).head ∷ s.literals ∷ length (view_of f).literals ∷ (view_of f).group ∷ []) [] ++ later Rules)
         ≤ length (view_of f).literals + literals_by_rule (later Rules)
-    step true = omega (arith, row_adds (view_of f).head s.literals (length (view_of f).literals) (later Rules))
+    step true = omega (arith, row_adds (view_of f).head s.literals (length (view_of f).literals) (view_of f).group (later Rules))
     step false = omega arith
 
 -- The rows of forms count no more literals than the forms list.

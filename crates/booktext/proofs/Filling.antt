@@ -146,7 +146,7 @@ module _ (space : Space) (fs : List Form) (book : IsBook space fs) where
   book_ends =
       let q = book.sequence in
       record {
-        before = q.atoms ∷ (q.defined ++ (q.rules ++ (q.clauses ++ q.loads)));
+        before = q.atoms ∷ (q.defined ++ (q.rules ++ (q.also ++ (q.clauses ++ q.loads))));
         state = q.state;
         whole = q.whole ∙ ap (λ (xs : List Form). q.atoms ∷ xs) (simp append_assoc);
       }

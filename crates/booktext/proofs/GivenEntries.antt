@@ -22,7 +22,7 @@ use Rattle.judging.specs.declared.reached.Space.{Space}
 use Rattle.judging.specs.declared.reached.Judged.TheVariants.{Passed}
 use Rattle.judging.specs.LentTables.{Marks, Values, Levels}
 use Rattle.judging.specs.States.{nothing_yet, open_stood, start, advanced, after, groups_reached}
-use Rattle.judging.specs.Judging.{atom_bound, numbers_within, may_follow, rises_from, parts_in_order, in_order, judge_text, forms_of}
+use Rattle.judging.specs.Judging.{atom_bound, numbers_within, may_follow, not_falling, rises_from, parts_in_order, in_order, judge_text, forms_of}
 use Rattle.judging.specs.Books.{after_all, IsBook, all_pass}
 use Rattle.judging.proofs.StateLaws.{groups_after}
 use Rattle.judging.proofs.LimitLaws.{atoms_limit}
@@ -142,7 +142,7 @@ module _ (space : Space) (text : List ℕ) (s : Reached) (e : judge_text space t
       let here = last f ends in
       let p = last_passing f ends in
       let size : s.size ≡ here.size = ap (λ (t : Reached). t.size) (last_state f ends) in
-      let bound : atom_bound here ≡ here.size = named_bound here f refl (both (may_follow (kind_in f) here.phase) _ p.follows p.ordered) in
+      let bound : atom_bound here ≡ here.size = named_bound here f refl (both (may_follow (kind_in f) here.phase) _ p.follows (both (not_falling here f) _ p.rising p.ordered)) in
       record {
         values = rw (size, entries_values f ends) (ones_exactly here.size atoms (rw (open_numbers, bound) at p.numbers));
         levels = entries_levels f ends ∙ columns_none (groups_reached here);

@@ -1,21 +1,28 @@
 -- Laws of reading: how the judgement of a text and the walk over it make the answer, and what they leave in the tables.
 -- Assumes nothing.
-use Prim.Native.Nat.{ℕ}
+use Prim.Native.Nat.{ℕ, ◌≤◌}
 use mathlib.Core.Path.{◌≡◌, refl, sym, ap, ◌∙◌}
 use mathlib.Core.Bool.{true, false≢true}
 use mathlib.Core.List.{List}
+use Rattle.tables.specs.Limits.{max_group}
 use Rattle.tables.specs.declared.Fault.{Fault}
 use Rattle.judging.specs.declared.reached.Reached.{Reached}
+use Rattle.judging.specs.declared.reached.Space.{Space}
 use Rattle.judging.specs.declared.reached.Judged.{Judged}
 use Rattle.judging.specs.declared.reached.Judged.TheVariants.{Passed, Failed}
 use Rattle.judging.specs.Judging.{judge_text, forms_of}
-use Rattle.judging.proofs.Accepted.{accepted_book}
+use Rattle.judging.proofs.Accepted.{accepted_book, accepted_group}
 use Rattle.forms.specs.Contents.{Contents, filled}
 use Rattle.forms.specs.Entries.{book_entries}
 use Rattle.lines.specs.internal.Walks.{is_passed, Walked}
 use Rattle.booktext.specs.declared.Book.{Book}
 use Rattle.booktext.specs.Answers.{space_of, answer_of, contents_after, Reads}
 use Rattle.booktext.proofs.Filling.{stored_filled}
+
+-- A text that passes has no more groups than a book may have.
+pub judged_group :
+    (space : Space) (text : List ℕ) {j : Judged} → j ≡ judge_text space text → (s : Reached) → j ≡ Passed s → s.group ≤ max_group
+judged_group space text e s passed = accepted_group space text s (sym e ∙ passed)
 
 module _ {text : List ℕ} {before : Contents} where
   -- A walk over a text that passes fills the tables that were judged.

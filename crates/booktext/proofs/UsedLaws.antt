@@ -1,14 +1,13 @@
 -- The used parts of the tables that a book was read into are its entries.
 -- Assumes nothing.
-use Prim.Native.Nat.{ℕ, ◌*◌, ◌≤◌}
+use Prim.Native.Nat.{◌≤◌}
 use mathlib.Core.Path.{◌≡◌, refl, sym, ◌∙◌}
 use mathlib.Core.Bool.{false}
-use native.Mathlib.Omega.{arith}
 use lib.ListN.{length}
 use Rattle.judging.specs.declared.reached.Reached.{Reached}
 use Rattle.judging.specs.declared.reached.Judged.TheVariants.{Passed}
 use Rattle.judging.specs.LentTables.{Table, Rules, Literals, Clauses, Loads, LoadLiterals, Minutes, Marks, Values, Levels}
-use Rattle.judging.specs.States.{open_stood, claim_stood, groups_reached, count_in}
+use Rattle.judging.specs.States.{open_stood, claim_stood, count_in}
 use Rattle.judging.proofs.StateLaws.{values_told, levels_told}
 use Rattle.forms.specs.Contents.{Contents, filled}
 use Rattle.forms.specs.Entries.{given_anew}
@@ -16,14 +15,6 @@ use Rattle.forms.proofs.OverLaws.{over_front}
 use Rattle.booktext.specs.Answers.{answer_of}
 use Rattle.booktext.specs.UsedParts.{used_in, used_parts, tables_of}
 use Rattle.booktext.proofs.Filling.{each_laid}
-
--- There is one group so far, and so as many levels as atoms.
-pub one_group_read : (s : Reached) → groups_reached s ≡ 1
-unfolding groups_reached
-one_group_read s = refl
-
-pub one_level : (s : Reached) → s.size ≡ s.size * groups_reached s
-one_level s = rw (one_group_read s) (omega arith)
 
 -- The used parts of filled tables are the entries.
 module _ (s : Reached) (used held : Contents) (counts : (table : Table) → length (used table) ≡ count_in s table) where
@@ -61,4 +52,4 @@ module _ (s : Reached) (used held : Contents) (counts : (table : Table) → leng
 
   pub used_levels : claim_stood ≤ s.phase → used_parts (answer_of (Passed s)) (filled used held) Levels ≡ used Levels
   unfolding used_in answer_of count_in
-  used_levels e = used_part Levels (one_level s ∙ sym (levels_told s e))
+  used_levels e = used_part Levels (sym (levels_told s e))

@@ -6,7 +6,7 @@ use Rattle.judging.specs.declared.reached.Space.{Space}
 use Rattle.judging.specs.declared.reached.Judged.{Judged}
 use Rattle.judging.specs.declared.reached.Judged.TheVariants.{Passed, Failed}
 use Rattle.judging.specs.Judging.{judge_text, forms_of}
-use Rattle.judging.specs.States.{open_stood, claim_stood}
+use Rattle.judging.specs.States.{open_stood, claim_stood, groups_reached}
 use Rattle.judging.specs.LentTables.{space_with}
 use Rattle.forms.specs.Contents.{Contents, filled}
 use Rattle.forms.specs.Entries.{book_entries}
@@ -27,7 +27,7 @@ state_number NoState = 0
 state_number OpenState = 1
 state_number ClaimState = 2
 
--- N and the entries used in each table, as single numbers. A refused text answers them as 0, and no state form.
+-- N, the entries used in each table and the number of groups, as single numbers. A refused text answers them as 0, and no state form.
 unfoldable pub answer_of : Judged → Book
 answer_of (Passed s) =
     record {
@@ -39,9 +39,10 @@ answer_of (Passed s) =
       loads = s.loads;
       terms = s.terms;
       state = state_of s.phase;
+      groups = groups_reached s;
     }
 answer_of (Failed fault at) =
-    record { verdict = Refused fault at; atoms = 0; rules = 0; literals = 0; clauses = 0; loads = 0; terms = 0; state = NoState }
+    record { verdict = Refused fault at; atoms = 0; rules = 0; literals = 0; clauses = 0; loads = 0; terms = 0; state = NoState; groups = 0 }
 
 -- The tables of an accepted text are filled; a refused text writes nothing.
 unfoldable pub contents_after : Judged → List Form → Contents → Contents

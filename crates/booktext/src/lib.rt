@@ -1,10 +1,12 @@
 // The reader of book texts.
-ghost use Rattle.std.specs.Prelude.{◌≡◌};
-ghost use Rattle.judging.specs.declared.reached.Judged.TheVariants.{Failed};
+ghost use Rattle.std.specs.Prelude.{◌≡◌, ◌≤◌};
+ghost use Rattle.tables.specs.Limits.{max_group};
+ghost use Rattle.judging.specs.declared.reached.Reached.{Reached};
+ghost use Rattle.judging.specs.declared.reached.Judged.TheVariants.{Passed, Failed};
 ghost use Rattle.forms.specs.Contents.{lent_tables};
 ghost use Rattle.booktext.specs.Answers.{state_number, state_of, answer_of, Reads};
 
-use judging::reached::{CLAIM_STOOD, Judged, OPEN_STOOD, Space};
+use judging::reached::{CLAIM_STOOD, Judged, OPEN_STOOD, Space, groups_reached};
 use lines::{judge, walk};
 use tables::{Fault, Verdict};
 
@@ -16,7 +18,7 @@ pub enum StateForm {
     ClaimState,
 }
 
-// The verdict, N, the entries used in each table, and the state form.
+// The verdict, N, the entries used in each table, the state form, and the number of groups.
 #[derive(Drop)]
 pub struct Book {
     pub verdict: Verdict,
@@ -27,6 +29,7 @@ pub struct Book {
     pub loads: usize,
     pub terms: usize,
     pub state: StateForm,
+    pub groups: usize,
 }
 
 // The number by which C is told a state form.
@@ -53,6 +56,7 @@ fn refused_book(fault: Fault, position: usize) -> Book
         loads: 0,
         terms: 0,
         state: StateForm::NoState,
+        groups: 0,
     }
 }
 
@@ -69,8 +73,9 @@ fn state_of(phase: usize) -> StateForm
     StateForm::NoState
 }
 
-// The answer for what a text has come to.
+// The answer for what a text has come to; no text that passes has more groups than a book may have.
 pub fn answer_of(judged: Judged) -> Book
+    requires { (s : Reached) → judged ≡ Passed s → s.group ≤ max_group }
     ensures { result ≡ answer_of judged }
 {
     match judged {
@@ -84,6 +89,7 @@ pub fn answer_of(judged: Judged) -> Book
             loads: reached.loads,
             terms: reached.terms,
             state: state_of(reached.phase),
+            groups: groups_reached(reached),
         },
     }
 }

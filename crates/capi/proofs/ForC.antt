@@ -18,7 +18,7 @@ use Rattle.indexed.specs.EvaluateIndexed.{IndexedSlices, evaluate_indexed_of, Ev
 use Rattle.indexed.proofs.Theorems.{both_makers}
 use Rattle.writing.specs.BookForms.{text_of}
 use Rattle.writing.specs.Writing.{write_of, written_of, Writes}
-use Rattle.capi.specs.Packing.{EvaluatedForC, EvaluatedIndexedForC, seven_places, ReadForC, WrittenForC, IndexedForC}
+use Rattle.capi.specs.Packing.{EvaluatedForC, EvaluatedIndexedForC, eight_places, ReadForC, WrittenForC, IndexedForC}
 
 -- A call of the writer from C leaves the buffer that `write` leaves, with the answer that C is told packed.
 pub written_for_c :
@@ -26,11 +26,11 @@ pub written_for_c :
     Writes t values levels before (written_of (write_of t values levels (length before)) (text_of t values levels)) after
 written_for_c w = record { answered = refl; written = w.written }
 
--- A call of the reader from C with seven places leaves the tables that `read` leaves.
+-- A call of the reader from C with eight places leaves the tables that `read` leaves.
 pub read_for_c :
-    {text places placesAfter : List ℕ} {before after : Contents} {answer : ℕ} → seven_places places ≡ true →
+    {text places placesAfter : List ℕ} {before after : Contents} {answer : ℕ} → eight_places places ≡ true →
     ReadForC text before places answer after placesAfter → Reads text before (answer_of (judge_text (space_of before) text)) after
-read_for_c seven r = record { answered = refl; written = r.written ∙ rw seven }
+read_for_c eight r = record { answered = refl; written = r.written ∙ rw eight }
 
 -- A call of the index from C leaves the slices that `index` leaves.
 pub indexed_for_c :

@@ -1,4 +1,4 @@
--- Laws of the answers for C: how large a packed verdict and a reader's counts are, and the seven counts in their places.
+-- Laws of the answers for C: how large a packed verdict and a reader's counts are, and the eight counts in their places.
 -- Assumes nothing.
 use Prim.Native.Nat.{ℕ, ◌+◌, ◌*◌, ◌≤◌, ◌<◌}
 use mathlib.Core.Path.{◌≡◌, refl}
@@ -18,7 +18,8 @@ use Rattle.judging.specs.declared.reached.Judged.{Judged}
 use Rattle.judging.specs.declared.reached.Judged.TheVariants.{Passed, Failed}
 use Rattle.judging.specs.Judging.{judge_text, max_bytes}
 use Rattle.judging.proofs.Counts.{CountsWithin, counts_within_lem}
-use Rattle.judging.proofs.Accepted.{accepted_book, accepted_size}
+use Rattle.judging.proofs.StateLaws.{groups_some}
+use Rattle.judging.proofs.Accepted.{accepted_book, accepted_size, accepted_group}
 use Rattle.forms.specs.Contents.{Contents}
 use Rattle.booktext.specs.declared.StateForm.{StateForm}
 use Rattle.booktext.specs.declared.StateForm.TheVariants.{NoState, OpenState, ClaimState}
@@ -33,7 +34,7 @@ use Rattle.writing.specs.BookForms.{text_of}
 use Rattle.writing.specs.Writing.{write_of, written_of, Writes}
 use Rattle.writing.proofs.WriteLaws.{promised_as, verdict_as}
 use Rattle.writing.proofs.Theorems.{written_position, written_length}
-use Rattle.capi.specs.Packing.{packed, packed_with, counts_of, no_answer, EvaluatedForC, EvaluatedIndexedForC, seven_places, ReadForC, WrittenForC}
+use Rattle.capi.specs.Packing.{packed, packed_with, counts_of, no_answer, EvaluatedForC, EvaluatedIndexedForC, eight_places, ReadForC, WrittenForC}
 use Rattle.capi.specs.internal.Counts.{WithinBook}
 
 -- ── Packed verdicts ──
@@ -115,9 +116,10 @@ answer_within space text = step (judge_text space text) refl
           clauses = counts.clauses;
           loads = counts.loads;
           terms = counts.terms;
+          groups = (groups_some s (accepted_group space text s e)).1;
         }
     step (Failed fault at) e =
-        record { atoms = omega arith; rules = omega arith; literals = omega arith; clauses = omega arith; loads = omega arith; terms = omega arith }
+        record { atoms = omega arith; rules = omega arith; literals = omega arith; clauses = omega arith; loads = omega arith; terms = omega arith; groups = omega arith }
 
 module _ {text : List ℕ} {before : Contents} {book : Book} {afterwards : Contents} (r : Reads text before book afterwards) where
   pub read_within : WithinBook book
@@ -126,37 +128,38 @@ module _ {text : List ℕ} {before : Contents} {book : Book} {afterwards : Conte
   pub read_position : position_of book.verdict ≤ max_position
   read_position = rw r.answered (text_position (space_of before) text)
 
--- ── Seven places ──
+-- ── Eight places ──
 
 pub state_small : (state : StateForm) → state_number state ≤ 2
 state_small NoState = omega arith
 state_small OpenState = omega arith
 state_small ClaimState = omega arith
 
--- Seven stores into seven places leave the seven values.
-pub seven_stored :
-    (l : List ℕ) → length l ≡ 7 → (a b c d e f g : ℕ) →
-    set (set (set (set (set (set (set l 0 a) 1 b) 2 c) 3 d) 4 e) 5 f) 6 g ≡ a ∷ b ∷ c ∷ d ∷ e ∷ f ∷ g ∷ []
-seven_stored [] h a b c d e f g = absurd (omega (arith, h))
-seven_stored (_ ∷ []) h a b c d e f g = absurd (omega (arith, h))
-seven_stored (_ ∷ _ ∷ []) h a b c d e f g = absurd (omega (arith, h))
-seven_stored (_ ∷ _ ∷ _ ∷ []) h a b c d e f g = absurd (omega (arith, h))
-seven_stored (_ ∷ _ ∷ _ ∷ _ ∷ []) h a b c d e f g = absurd (omega (arith, h))
-seven_stored (_ ∷ _ ∷ _ ∷ _ ∷ _ ∷ []) h a b c d e f g = absurd (omega (arith, h))
-seven_stored (_ ∷ _ ∷ _ ∷ _ ∷ _ ∷ _ ∷ []) h a b c d e f g = absurd (omega (arith, h))
-seven_stored (_ ∷ _ ∷ _ ∷ _ ∷ _ ∷ _ ∷ _ ∷ []) h a b c d e f g = refl
-seven_stored (_ ∷ _ ∷ _ ∷ _ ∷ _ ∷ _ ∷ _ ∷ _ ∷ l) h a b c d e f g = absurd (omega (arith, h))
+-- Eight stores into eight places leave the eight values.
+pub eight_stored :
+    (l : List ℕ) → length l ≡ 8 → (a b c d e f g h : ℕ) →
+    set (set (set (set (set (set (set (set l 0 a) 1 b) 2 c) 3 d) 4 e) 5 f) 6 g) 7 h ≡ a ∷ b ∷ c ∷ d ∷ e ∷ f ∷ g ∷ h ∷ []
+eight_stored [] long a b c d e f g h = absurd (omega (arith, long))
+eight_stored (_ ∷ []) long a b c d e f g h = absurd (omega (arith, long))
+eight_stored (_ ∷ _ ∷ []) long a b c d e f g h = absurd (omega (arith, long))
+eight_stored (_ ∷ _ ∷ _ ∷ []) long a b c d e f g h = absurd (omega (arith, long))
+eight_stored (_ ∷ _ ∷ _ ∷ _ ∷ []) long a b c d e f g h = absurd (omega (arith, long))
+eight_stored (_ ∷ _ ∷ _ ∷ _ ∷ _ ∷ []) long a b c d e f g h = absurd (omega (arith, long))
+eight_stored (_ ∷ _ ∷ _ ∷ _ ∷ _ ∷ _ ∷ []) long a b c d e f g h = absurd (omega (arith, long))
+eight_stored (_ ∷ _ ∷ _ ∷ _ ∷ _ ∷ _ ∷ _ ∷ []) long a b c d e f g h = absurd (omega (arith, long))
+eight_stored (_ ∷ _ ∷ _ ∷ _ ∷ _ ∷ _ ∷ _ ∷ _ ∷ []) long a b c d e f g h = refl
+eight_stored (_ ∷ _ ∷ _ ∷ _ ∷ _ ∷ _ ∷ _ ∷ _ ∷ _ ∷ l) long a b c d e f g h = absurd (omega (arith, long))
 
--- With seven places the reader's call answers for the reader, and with any other number it writes nothing.
+-- With eight places the reader's call answers for the reader, and with any other number it writes nothing.
 module _ {text : List ℕ} {before : Contents} {answer : List ℕ} where
   pub read_answers :
-      {book : Book} {afterwards : Contents} {code : ℕ} {answerAfter : List ℕ} → length answer ≡ 7 → Reads text before book afterwards →
+      {book : Book} {afterwards : Contents} {code : ℕ} {answerAfter : List ℕ} → length answer ≡ 8 → Reads text before book afterwards →
       code ≡ packed book.verdict → answerAfter ≡ counts_of book → ReadForC text before answer code afterwards answerAfter
-  unfolding seven_places
-  read_answers seven r packs counts =
-      let is = eq-eqb (length answer) 7 seven in
+  unfolding eight_places
+  read_answers eight r packs counts =
+      let is = eq-eqb (length answer) 8 eight in
       record { answered = rw (is, ← r.answered) packs; counts = rw (is, ← r.answered) counts; written = rw is r.written }
 
-  pub read_unanswered : (length answer ≡ 7 → ⊥) → ReadForC text before answer no_answer before answer
-  unfolding seven_places
-  read_unanswered other = let is = ne_eqb (length answer) 7 other in record { answered = rw is; counts = rw is; written = rw is }
+  pub read_unanswered : (length answer ≡ 8 → ⊥) → ReadForC text before answer no_answer before answer
+  unfolding eight_places
+  read_unanswered other = let is = ne_eqb (length answer) 8 other in record { answered = rw is; counts = rw is; written = rw is }

@@ -21,12 +21,12 @@ packed verdict = number_of verdict * 65536 + position_of verdict
 unfoldable pub packed_with : Verdict → ℕ → ℕ
 packed_with verdict count = count * 4294967296 + packed verdict
 
--- What the reader counted: N, the entries of rules, literals, clauses, loads and terms, and the number of the state form.
+-- What the reader counted: N, the entries of rules, literals, clauses, loads and terms, the number of the state form, and the groups.
 unfoldable pub counts_of : Book → List ℕ
 counts_of book =
-    book.atoms ∷ book.rules ∷ book.literals ∷ book.clauses ∷ book.loads ∷ book.terms ∷ state_number book.state ∷ []
+    book.atoms ∷ book.rules ∷ book.literals ∷ book.clauses ∷ book.loads ∷ book.terms ∷ state_number book.state ∷ book.groups ∷ []
 
--- Answered where the counts have not seven places; no call's verdict packs to it (`Unpacking`, `check_unpacks` and those after it).
+-- Answered where the counts have not eight places; no call's verdict packs to it (`Unpacking`, `check_unpacks` and those after it).
 abbrev pub no_answer : ℕ
 no_answer = 4294967295
 
@@ -43,15 +43,15 @@ pub record EvaluatedIndexedForC
   pub evaluated : EvaluatedForC (evaluate_indexed_of t s) answer values levels work
   pub left : IndexLeft t s starts entries counts
 
--- What the reader's call promises. With seven places it is the reader's answer; with any other number of places nothing is written.
-unfoldable pub seven_places : List ℕ → Bool
-seven_places answer = eqb (length answer) 7
+-- What the reader's call promises. With eight places it is the reader's answer; with any other number of places nothing is written.
+unfoldable pub eight_places : List ℕ → Bool
+eight_places answer = eqb (length answer) 8
 
 pub record ReadForC
     (text : List ℕ) (before : Contents) (answer : List ℕ) (code : ℕ) (afterwards : Contents) (answerAfter : List ℕ) : Type 0 where
-  pub answered : code ≡ cond (seven_places answer) (packed (answer_of (judge_text (space_of before) text)).verdict) no_answer
-  pub counts : answerAfter ≡ cond (seven_places answer) (counts_of (answer_of (judge_text (space_of before) text))) answer
-  pub written : afterwards ≡ cond (seven_places answer) (contents_after (judge_text (space_of before) text) (forms_of text) before) before
+  pub answered : code ≡ cond (eight_places answer) (packed (answer_of (judge_text (space_of before) text)).verdict) no_answer
+  pub counts : answerAfter ≡ cond (eight_places answer) (counts_of (answer_of (judge_text (space_of before) text))) answer
+  pub written : afterwards ≡ cond (eight_places answer) (contents_after (judge_text (space_of before) text) (forms_of text) before) before
 
 -- What the writer's call promises: its answer, and the buffer afterwards.
 pub record WrittenForC (t : Tables) (values levels before : List ℕ) (answer : ℕ) (afterwards : List ℕ) : Type 0 where

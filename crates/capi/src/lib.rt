@@ -22,7 +22,7 @@ use tables::sizes::MAX_ATOMS;
 use tables::{Verdict, number_of, position_of};
 use writing::write;
 
-// Answered where the counts have not seven places; no verdict packs to it.
+// Answered where the counts have not eight places; no verdict packs to it.
 const NO_ANSWER: u32 = 4_294_967_295;
 
 // The verdict's number × 65,536 + its position; 0 if accepted.
@@ -249,9 +249,9 @@ pub extern "C" fn battenplum_index(
     ))
 }
 
-// Puts the seven counts in their places.
+// Puts the eight counts in their places.
 fn put_counts(answer: &mut [u32], book: Book)
-    requires answer_len { length answer.old ≡ 7 }
+    requires answer_len { length answer.old ≡ 8 }
     requires within_book { WithinBook book }
     ensures { answer.new ≡ counts_of book }
 {
@@ -263,9 +263,10 @@ fn put_counts(answer: &mut [u32], book: Book)
     answer[4] = book.loads as u32;
     answer[5] = book.terms as u32;
     answer[6] = state_number(state) as u32;
+    answer[7] = book.groups as u32;
 }
 
-// The reader into lent tables, with what it counted in seven places.
+// The reader into lent tables, with what it counted in eight places.
 #[unsafe(no_mangle)]
 pub extern "C" fn battenplum_read(
     text: &[u8],
@@ -286,7 +287,7 @@ pub extern "C" fn battenplum_read(
         (lent_tables rules.new literals.new clauses.new loads.new load_literals.new
         minutes.new marks.new values.new levels.new) answer.new }
 {
-    if answer.len() != 7 {
+    if answer.len() != 8 {
         return NO_ANSWER;
     }
     let book = read(

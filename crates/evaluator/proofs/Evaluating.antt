@@ -2,28 +2,24 @@
 -- Assumes nothing.
 use Prim.Native.Nat.{ℕ, ◌<◌}
 use mathlib.Core.Path.{◌≡◌, refl, sym, ap, subst, ◌∙◌}
-use mathlib.Core.Bool.{Bool, true, false, not}
 use mathlib.Core.List.{List, [], ◌∷◌, Memᴰ}
 use lib.IntN.{ℤ}
 use lib.ListN.{length}
-use borrow.Author.Tests.{eqb-true, not-false}
-use Rattle.wellfounded.specs.Lists.{all}
 use Rattle.wellfounded.specs.Definitions.{Definition, is_defined}
-use Rattle.wellfounded.proofs.Lists.{all_use}
 use Rattle.wellfounded.proofs.Closure.{model_length}
 use Rattle.tables.specs.declared.Found.{Found}
 use Rattle.tables.specs.declared.Found.TheVariants.{At, Nothing}
 use Rattle.tables.specs.declared.Fault.{Fault}
-use Rattle.tables.specs.declared.Fault.TheVariants.{Value, SliceLength, Mark}
+use Rattle.tables.specs.declared.Fault.TheVariants.{Value, Mark}
 use Rattle.tables.specs.declared.Verdict.{Verdict}
 use Rattle.tables.specs.declared.Verdict.TheVariants.{Accepted, Refused}
 use Rattle.tables.specs.Faults.{lowest, Test, Absent, first_fault}
 use Rattle.tables.specs.internal.Marks.{is_marked}
 use Rattle.tables.specs.internal.Marks.{TellsDefined}
-use Rattle.tables.specs.Sound.{Tables, lent, group_of, book_of, table_tests, Slice, is_sized, slice_test, mark_count_test, mark_test}
+use Rattle.tables.specs.Sound.{Tables, lent, group_of, book_of, table_tests, one_group_tests, Slice, mark_count_test, mark_test}
 use Rattle.satisfaction.specs.Satisfied.{satisfaction_tests}
-use Rattle.tables.proofs.Faults.{lowest_same, found_refuses, nothing_leaves, first_fails, once_fails, first_append, first_append_refused, accepted_absent}
-use Rattle.tables.proofs.SoundTables.{sound_sizes, sound_rules, sound_clauses, sound_loads, slice_leaves, lent_order, marks_refuse, marks_leave}
+use Rattle.tables.proofs.Faults.{lowest_same, found_refuses, nothing_leaves, first_append, first_append_refused, accepted_absent}
+use Rattle.tables.proofs.SoundTables.{sound_sizes, sound_rules, sound_clauses, sound_loads, slices_fit, slices_order, one_group_tables, one_group_zero, one_group_slices, marks_refuse, marks_leave}
 use Rattle.tables.proofs.RowLaws.{defined_tell, book_size, book_rows_lem}
 use Rattle.tables.specs.Limits.{max_atoms}
 use Rattle.tables.specs.Values.{not_held}
@@ -51,7 +47,7 @@ module _
           lends = record {
             few = rw book_size sound.few;
             long = long ∙ sym (book_size t);
-            has_rows = book_rows_lem t;
+            has_rows = book_rows_lem t sound.one;
             rows = rw book_size sound.rows;
             room = marked.long;
             tells = λ atom l. tells atom (rw book_size at l);
@@ -118,7 +114,7 @@ made_answer t setting values levels work left found is none verdict rounds value
 
 -- ── The whole call ──
 
--- Tables and slices without a fault of 11 to 17, with N marks, leave the verdict to single marks, the setting and the model.
+-- Tables of group 0 and slices without a fault of 11 to 17, with N marks, leave the verdict to single marks, the setting and the model.
 pub record Prepared (t : Tables) (setting values levels work : List ℕ) : Type 0 where
   pub setting_long : length setting ≡ t.atoms
   pub sound : Lent t values levels work
@@ -138,65 +134,58 @@ module _ (t : Tables) (setting values levels work : List ℕ) where
   refused_answer fault position e =
       rw e (record { verdict_is = refl; rounds_is = refl; values_is = refl; levels_is = refl; work_is = refl })
 
-  -- Unsound tables, a slice of another length,
+  -- Unsound tables, a rule of another group, a slice of another length,
   pub tables_answer :
-      (verdict : Verdict) (fault : Fault) (position : ℕ) → verdict ≡ first_fault (table_tests t) → verdict ≡ Refused fault position →
+      (verdict : Verdict) (fault : Fault) (position : ℕ) → verdict ≡ first_fault (one_group_tests t slices) → verdict ≡ Refused fault position →
       Answers (evaluate_of t setting values levels work) verdict 0 values levels work
   unfolding refusal_tests
   tables_answer verdict fault position is refused =
       rw refused
       (refused_answer fault position
-      (ap first_fault (lent_order t slices _) ∙ first_append_refused (table_tests t) _ fault position (sym is ∙ refused)))
+      (ap first_fault (slices_order t slices _) ∙ first_append_refused (one_group_tests t slices) _ fault position (sym is ∙ refused)))
 
-  module _ (verdict : Verdict) (is : verdict ≡ first_fault (table_tests t)) (accepted : verdict ≡ Accepted) (fit : Bool)
-      (fits : fit ≡ all is_sized slices) where
-    pub slices_answer : not fit ≡ true → Answers (evaluate_of t setting values levels work) (Refused SliceLength 0) 0 values levels work
-    unfolding refusal_tests slice_test
-    slices_answer wrong =
-        refused_answer SliceLength 0
-        (ap first_fault (lent_order t slices _) ∙ first_append (table_tests t) _ (sym is ∙ accepted)
-        ∙ first_fails _ _ 0 (once_fails _ (ap not (sym fits) ∙ wrong)))
+  -- marks that are not one for each atom,
+  module _ (verdict : Verdict) (is : verdict ≡ first_fault (one_group_tests t slices)) (accepted : verdict ≡ Accepted) where
+    early : (test : Test) → Memᴰ test (one_group_tests t slices) → Absent test
+    early = accepted_absent (one_group_tests t slices) (sym is ∙ accepted)
 
-    -- marks that are not one for each atom,
-    module _ (right : not fit ≡ false) where
-      long : (s : Slice) → Memᴰ s slices → s.entries ≡ s.due
-      unfolding is_sized
-      long s m = eqb-true _ _ (all_use is_sized slices (sym fits ∙ not-false _ right) m)
+    none : (test : Test) → Memᴰ test (table_tests t) → Absent test
+    none = one_group_tables t slices early
 
-      none : (test : Test) → Memᴰ test (table_tests t) → Absent test
-      none = accepted_absent (table_tests t) (sym is ∙ accepted)
+    long : (s : Slice) → Memᴰ s slices → s.entries ≡ s.due
+    long = slices_fit slices (one_group_slices t slices early)
 
-      marks_left_to :
-          first_fault (refusal_tests t setting slices)
-          ≡ first_fault (mark_count_test t ∷ mark_test t ∷ setting_test (book_of t) setting ∷ [])
-      unfolding refusal_tests
-      marks_left_to =
-          ap first_fault (lent_order t slices _) ∙ first_append (table_tests t) _ (sym is ∙ accepted) ∙ slice_leaves slices _ long
+    marks_left_to :
+        first_fault (refusal_tests t setting slices)
+        ≡ first_fault (mark_count_test t ∷ mark_test t ∷ setting_test (book_of t) setting ∷ [])
+    unfolding refusal_tests
+    marks_left_to = ap first_fault (slices_order t slices _) ∙ first_append (one_group_tests t slices) _ (sym is ∙ accepted)
 
-      pub marks_answer :
-          (length t.marks ≡ t.atoms → ⊥) → Answers (evaluate_of t setting values levels work) (Refused Mark 0) 0 values levels work
-      marks_answer other = refused_answer Mark 0 (marks_left_to ∙ marks_refuse t _ other)
+    pub marks_answer :
+        (length t.marks ≡ t.atoms → ⊥) → Answers (evaluate_of t setting values levels work) (Refused Mark 0) 0 values levels work
+    marks_answer other = refused_answer Mark 0 (marks_left_to ∙ marks_refuse t _ other)
 
-      -- or single marks, the setting and the model decide.
-      pub prepared : length t.marks ≡ t.atoms → Prepared t setting values levels work
-      unfolding evaluate_of start_tests
-      prepared many =
-          record {
-            setting_long = long _ (Memᴰ.head refl);
-            sound = record {
-              few = (sound_sizes t none).few_atoms;
-              rows = sound_rules t none;
-              clause_rows = sound_clauses t none;
-              load_rows = sound_loads t none;
-              marks_long = many;
-              values_long = long _ (Memᴰ.tail (Memᴰ.head refl));
-              levels_long = long _ (Memᴰ.tail (Memᴰ.tail (Memᴰ.head refl)));
-              work_long = long _ (Memᴰ.tail (Memᴰ.tail (Memᴰ.tail (Memᴰ.head refl))));
-            };
-            leaves =
-                ap (λ (v : Verdict). stopped_or v values levels work (evaluated t setting))
-                (marks_left_to ∙ marks_leave t _ many);
-          }
+    -- or single marks, the setting and the model decide.
+    pub prepared : length t.marks ≡ t.atoms → Prepared t setting values levels work
+    unfolding evaluate_of start_tests
+    prepared many =
+        record {
+          setting_long = long _ (Memᴰ.head refl);
+          sound = record {
+            few = (sound_sizes t none).few_atoms;
+            one = one_group_zero t slices early;
+            rows = sound_rules t none;
+            clause_rows = sound_clauses t none;
+            load_rows = sound_loads t none;
+            marks_long = many;
+            values_long = long _ (Memᴰ.tail (Memᴰ.head refl));
+            levels_long = long _ (Memᴰ.tail (Memᴰ.tail (Memᴰ.head refl)));
+            work_long = long _ (Memᴰ.tail (Memᴰ.tail (Memᴰ.tail (Memᴰ.head refl))));
+          };
+          leaves =
+              ap (λ (v : Verdict). stopped_or v values levels work (evaluated t setting))
+              (marks_left_to ∙ marks_leave t _ many);
+        }
 
 -- The call lends the number of atoms as the setting's length.
 module _ (atoms : ℕ) (rules literals clauses : List ℕ) (loads : List ℤ) (load_literals : List ℕ) (minutes : List ℤ) (marks setting values levels work : List ℕ)

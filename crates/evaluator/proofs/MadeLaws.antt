@@ -11,7 +11,7 @@ use Rattle.tables.specs.declared.Fault.{Fault}
 use Rattle.tables.specs.declared.Verdict.{Verdict}
 use Rattle.tables.specs.declared.Verdict.TheVariants.{Accepted, Refused}
 use Rattle.tables.specs.Faults.{fault_number, first_fault, number_of}
-use Rattle.tables.specs.Sound.{Tables, table_tests, Slice, slice_test, mark_count_test, mark_test, lent_tests}
+use Rattle.tables.specs.Sound.{Tables, table_tests, Slice, slice_test, mark_count_test, mark_test, other_group_test, one_group_tests, lent_one_group_tests}
 use Rattle.tables.specs.contracts.Fault.{enum}
 use Rattle.tables.proofs.Faults.{refused_among}
 use Rattle.tables.proofs.Enums.{every_same}
@@ -29,7 +29,7 @@ pub stopped_unmade :
     (t : Tables) (setting : List ℕ) (slices : List Slice) (fault : Fault) (position : ℕ) →
     first_fault (refusal_tests t setting slices) ≡ Refused fault position →
     model_fault fault ≡ false
-unfolding refusal_tests lent_tests table_tests slice_test mark_count_test mark_test setting_test all any model_fault
+unfolding refusal_tests lent_one_group_tests one_group_tests table_tests other_group_test slice_test mark_count_test mark_test setting_test all any model_fault
 stopped_unmade t setting slices fault position e =
     not-true _ (refused_among (λ f. not (model_fault f)) (refusal_tests t setting slices) refl fault position e)
 

@@ -13,9 +13,9 @@ use Rattle.tables.specs.declared.Verdict.TheVariants.{Accepted, Refused}
 use Rattle.tables.specs.Limits.{max_atoms, max_position}
 use Rattle.tables.specs.Faults.{position_of, first_fault}
 use Rattle.tables.specs.Rows.{definition_of}
-use Rattle.tables.specs.Sound.{Tables, group_of, book_of, lent_tests, Slice, Sizes}
+use Rattle.tables.specs.Sound.{Tables, group_of, book_of, lent_one_group_tests, Slice, Sizes}
 use Rattle.tables.proofs.Faults.{accepted_absent}
-use Rattle.tables.proofs.Positions.{position_more, position_none, passed_sizes, few_atoms_lem, few_in_book, lent_position}
+use Rattle.tables.proofs.Positions.{position_more, position_none, passed_sizes, few_atoms_lem, few_in_book, one_group_position}
 use Rattle.satisfaction.proofs.Positions.{satisfaction_position}
 use Rattle.evaluator.specs.Evaluate.{setting_test, undecided_test, evaluation_slices, refusal_tests, model_tests, evaluated, stopped_or, evaluate_of}
 use Rattle.evaluator.proofs.SettingFault.{absent_setting}
@@ -28,7 +28,7 @@ pub refusal_position :
     (t : Tables) (setting : List ℕ) (slices : List Slice) → position_of (first_fault (refusal_tests t setting slices)) ≤ max_position
 unfolding refusal_tests setting_test
 refusal_position t setting slices =
-    lent_position t slices _ (λ z. position_more _ _ (few_in_book t z) (λ a. position_none))
+    one_group_position t slices _ (λ z. position_more _ _ (few_in_book t z) (λ a. position_none))
 
 module _ (t : Tables) (setting : List ℕ) (slices : List Slice) (e : first_fault (refusal_tests t setting slices) ≡ Accepted) where
   -- Of a setting that is not refused the open atoms are false or true.
@@ -36,8 +36,8 @@ module _ (t : Tables) (setting : List ℕ) (slices : List Slice) (e : first_faul
   unfolding refusal_tests
   open_given =
       absent_setting (book_of t) setting
-      (accepted_absent (lent_tests t slices ++ (setting_test (book_of t) setting ∷ [])) e _
-      (Memᴰ.append_right (lent_tests t slices) (Memᴰ.head refl)))
+      (accepted_absent (lent_one_group_tests t slices ++ (setting_test (book_of t) setting ∷ [])) e _
+      (Memᴰ.append_right (lent_one_group_tests t slices) (Memᴰ.head refl)))
 
   pub small_tables : Sizes t
   unfolding refusal_tests

@@ -9,7 +9,7 @@ use Rattle.tables.specs.declared.Fault.TheVariants.{Value, Undecided, FailingCla
 use Rattle.tables.specs.declared.Verdict.{Verdict}
 use Rattle.tables.specs.declared.Verdict.TheVariants.{Accepted, Refused}
 use Rattle.tables.specs.Faults.{fault_number, Test, first_fault}
-use Rattle.tables.specs.Sound.{Tables, book_of, Slice, sized, lent_tests}
+use Rattle.tables.specs.Sound.{Tables, book_of, Slice, sized, lent_one_group_tests}
 use Rattle.tables.specs.Values.{not_held}
 use Rattle.satisfaction.specs.Satisfied.{satisfaction_tests}
 
@@ -28,9 +28,9 @@ undecided_test atoms model = record { fault = Undecided; positions = atoms; bad 
 abbrev pub evaluation_slices : ℕ → ℕ → ℕ → ℕ → ℕ → List Slice
 evaluation_slices atoms setting values levels work = sized setting atoms ∷ sized values atoms ∷ sized levels atoms ∷ sized work atoms ∷ []
 
--- The faults that stop the evaluator before it writes anything: those of what it is lent, and of the setting.
+-- The faults that stop the evaluator, which takes books of group 0 alone, before it writes anything: those of what it is lent, and of the setting.
 unfoldable pub refusal_tests : Tables → List ℕ → List Slice → List Test
-refusal_tests t setting slices = lent_tests t slices ++ (setting_test (book_of t) setting ∷ [])
+refusal_tests t setting slices = lent_one_group_tests t slices ++ (setting_test (book_of t) setting ∷ [])
 
 -- The faults of the model that it has made.
 unfoldable pub model_tests : Tables → List ℕ → List Test

@@ -11,7 +11,7 @@ ghost use Rattle.evaluator.specs.internal.Lent.{Lent, start_tests};
 use rounds::{bad_setting, evaluate_stages};
 use satisfaction::satisfaction_fault;
 use tables::marks::mark_defined;
-use tables::sizes::{MAX_ATOMS, table_fault};
+use tables::sizes::{MAX_ATOMS, one_group_fault};
 use tables::values::not_held_atom;
 use tables::{Fault, Found, Verdict};
 
@@ -51,7 +51,7 @@ fn lengths_fit(atoms: usize, setting: usize, values: usize, levels: usize, work:
     (setting == atoms) & ((values == atoms) & ((levels == atoms) & (work == atoms)))
 }
 
-// Evaluates on tables and slices without a fault of 11 to 17, and N marks: refused for a mark or for the setting with nothing written, or evaluated.
+// Evaluates on tables of group 0 and slices without a fault of 11 to 17, and N marks: refused for a mark or for the setting with nothing written, or evaluated.
 fn evaluate_lent(
     rules: &[u16],
     literals: &[u16],
@@ -96,7 +96,7 @@ fn evaluate_lent(
     Answer { verdict, rounds }
 }
 
-// Evaluates a book at the open values. For the numbers 0, 25, 26 and 27 values become the well-founded model, levels the
+// Evaluates a book of group 0 at the open values. For the numbers 0, 25, 26 and 27 values become the well-founded model, levels the
 // stages and work all 0; for every other number nothing is written.
 pub fn evaluate(
     atoms: usize,
@@ -118,7 +118,14 @@ pub fn evaluate(
         open_values.now values.old levels.old work.old)
         result.verdict result.rounds values.new levels.new work.new }
 {
-    let verdict = table_fault(
+    let fit = lengths_fit(
+        atoms,
+        open_values.len(),
+        values.len(),
+        levels.len(),
+        work.len(),
+    );
+    let verdict = one_group_fault(
         atoms,
         rules,
         literals,
@@ -126,21 +133,10 @@ pub fn evaluate(
         loads,
         load_literals,
         minutes,
+        fit,
     );
     if let Verdict::Refused(_, _) = verdict {
         return Answer { verdict, rounds: 0 };
-    }
-    if !lengths_fit(
-        atoms,
-        open_values.len(),
-        values.len(),
-        levels.len(),
-        work.len(),
-    ) {
-        return Answer {
-            verdict: Verdict::Refused(Fault::SliceLength, 0),
-            rounds: 0,
-        };
     }
     if marks.len() != atoms {
         return Answer {

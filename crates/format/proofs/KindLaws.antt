@@ -9,7 +9,7 @@ use lib.ListN.{length, get_or, drop_of_length-le}
 use lib.Seq.{drop-cons}
 use borrow.Author.Tests.{eqb-true, eqb-false, eq-eqb, ne_eqb}
 use Rattle.format.specs.declared.kinds.Kind.{Kind}
-use Rattle.format.specs.declared.kinds.Kind.TheVariants.{Atoms, Rule, Clause, Load, Open, Claim, Defined, Unknown}
+use Rattle.format.specs.declared.kinds.Kind.TheVariants.{Atoms, Rule, Clause, Load, Open, Claim, Defined, Also, Unknown}
 use Rattle.format.specs.Words.{starts_with, word_at, word_of, kind_of, kind_at}
 
 -- Whether a byte stands at an offset.
@@ -32,7 +32,7 @@ module _ (text : List ℕ) (at : ℕ) where
   first_kind [] = Unknown
   first_kind (k ∷ ks) = cond (word_at text at (word_of k)) k (first_kind ks)
 
-  pub kind_first : kind_at text at ≡ first_kind (Atoms ∷ Rule ∷ Clause ∷ Load ∷ Open ∷ Claim ∷ Defined ∷ [])
+  pub kind_first : kind_at text at ≡ first_kind (Atoms ∷ Rule ∷ Clause ∷ Load ∷ Open ∷ Claim ∷ Defined ∷ Also ∷ [])
   unfolding kind_at kind_of first_kind word_at word_of
   kind_first = refl
 

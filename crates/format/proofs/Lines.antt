@@ -7,14 +7,14 @@ use mathlib.Core.List.{List, [], ◌∷◌, ◌++◌, append_assoc, append-nil}
 use lib.IntN.{ℤ}
 use lib.ListN.{length, drop}
 use Rattle.format.specs.declared.kinds.Kind.{Kind}
-use Rattle.format.specs.declared.kinds.Kind.TheVariants.{Atoms, Rule, Clause, Load, Open, Claim, Defined, Unknown}
+use Rattle.format.specs.declared.kinds.Kind.TheVariants.{Atoms, Rule, Clause, Load, Open, Claim, Defined, Also, Unknown}
 use Rattle.format.specs.Forms.{LiteralText, TermText, PairText}
-use Rattle.format.specs.Forms.{Form, atoms_form, rule_form, clause_form, load_form, open_form, claim_form, defined_form}
-use Rattle.format.specs.Forms.{space, closing, line_end, atoms_word, rule_word, clause_word, load_word, open_word, claim_word, defined_word}
+use Rattle.format.specs.Forms.{Form, atoms_form, rule_form, clause_form, load_form, open_form, claim_form, defined_form, also_form}
+use Rattle.format.specs.Forms.{space, closing, line_end, atoms_word, rule_word, clause_word, load_word, open_word, claim_word, defined_word, also_word}
 use Rattle.format.specs.Forms.{decimal, signed, literal_bytes, term_bytes, pair_bytes, parts_bytes, render}
 use Rattle.format.specs.Words.{starts_with, word_of, kind_of}
 use Rattle.format.specs.Parse.{Reading, got, refused, Holds, and_then, skip, read_number, read_signed, read_literal, read_term, read_pair, parts}
-use Rattle.format.specs.Parse.{read_atoms, read_rule, read_clause, read_load, read_open, read_claim, as_defined, read_defined, read_as, read_form, whole, parse, read_line}
+use Rattle.format.specs.Parse.{read_atoms, read_rule, read_clause, read_load, read_open, read_claim, as_defined, read_defined, read_also, read_as, read_form, whole, parse, read_line}
 use Rattle.format.proofs.Readings.{holds_use, holds_then, skip_written}
 use Rattle.format.proofs.Pieces.{closing_ends, space_ends, number_inverse, signed_inverse, literal_inverse, term_inverse}
 use Rattle.format.proofs.Parts.{parts_end, parts_reads, parts_written, pair_inverse}
@@ -60,6 +60,16 @@ defined_reads : (atom : ℕ) (others rest : List ℕ) → read_form (render (def
 unfolding render read_form kind_of word_of read_as starts_with read_defined as_defined and_then skip
 defined_reads atom others rest = rw (parts_reads decimal read_number number_inverse (atom ∷ others) rest)
 
+also_reads : (g h : ℕ) (ls : List LiteralText) (rest : List ℕ) → read_form (render (also_form g h ls) ++ rest) ≡ got (also_form g h ls) rest
+unfolding render read_form kind_of word_of read_as starts_with read_also and_then skip
+also_reads g h ls rest =
+    simp append_assoc
+    (rw (
+      number_inverse.reads g (space ∷ (decimal h ++ (parts_bytes literal_bytes ls ++ rest))) (space_ends _),
+      number_inverse.reads h (parts_bytes literal_bytes ls ++ rest) (parts_end literal_bytes ls rest),
+      parts_reads literal_bytes read_literal literal_inverse ls rest,
+    ))
+
 pub form_reads : (f : Form) (rest : List ℕ) → read_form (render f ++ rest) ≡ got f rest
 form_reads (atoms_form n) = atoms_reads n
 form_reads (rule_form h ls) = rule_reads h ls
@@ -68,6 +78,7 @@ form_reads (load_form lo hi ts) = load_reads lo hi ts
 form_reads (open_form atoms) = open_reads atoms
 form_reads (claim_form ps) = claim_reads ps
 form_reads (defined_form atom others) = defined_reads atom others
+form_reads (also_form g h ls) = also_reads g h ls
 
 -- What is read as a form of some kind, written again after its word, are the bytes.
 module _ (bytes : List ℕ) where
@@ -128,6 +139,16 @@ module _ (bytes : List ℕ) where
       step [] end e = tt
       step (atom ∷ others) end e = rw e
 
+  also_written : Holds (After Also) (read_also bytes)
+  unfolding word_of render read_also
+  also_written =
+      holds_then (λ s after. bytes ≡ space ∷ after) (After Also) (skip (space ∷ []) bytes) _ (skip_written (space ∷ []) bytes) λ s after e.
+      holds_then (λ g rest. after ≡ decimal g ++ rest) (After Also) (read_number after) _ (number_inverse.written after) λ g rest d.
+      holds_then (λ t next. rest ≡ space ∷ next) (After Also) (skip (space ∷ []) rest) _ (skip_written (space ∷ []) rest) λ t next f.
+      holds_then (λ h last. next ≡ decimal h ++ last) (After Also) (read_number next) _ (number_inverse.written next) λ h last i.
+      holds_then (λ ls end. last ≡ parts_bytes literal_bytes ls ++ end) (After Also) (parts read_literal last) _ (parts_written literal_bytes read_literal literal_inverse last) λ ls end j.
+      rw (e, d, f, i, j) (simp append_assoc)
+
   as_written : (kind : Kind) → Holds (After kind) (read_as kind bytes)
   unfolding read_as
   as_written Atoms = atoms_written
@@ -137,6 +158,7 @@ module _ (bytes : List ℕ) where
   as_written Open = open_written
   as_written Claim = claim_written
   as_written Defined = defined_written
+  as_written Also = also_written
   as_written Unknown = tt
 
 -- The word that tells the kind stands in front.
@@ -155,7 +177,7 @@ module _ (bytes : List ℕ) where
   unfolding kind_of word_of
   kind_begins =
       begins atoms_word Atoms _ refl (begins rule_word Rule _ refl (begins clause_word Clause _ refl (begins load_word Load _ refl (begins open_word Open _ refl
-      (begins claim_word Claim _ refl (begins defined_word Defined Unknown refl refl))))))
+      (begins claim_word Claim _ refl (begins defined_word Defined _ refl (begins also_word Also Unknown refl refl)))))))
 
 pub form_written : (bytes : List ℕ) → Holds (λ f rest. bytes ≡ render f ++ rest) (read_form bytes)
 unfolding read_form

@@ -11,7 +11,7 @@ use borrow.Author.Tests.{le-leb}
 use Rattle.wellfounded.specs.Lists.{all}
 use Rattle.wellfounded.proofs.Tests.{both, first, second}
 use Rattle.format.specs.Forms.{LiteralText, TermText, PairText, space, opening, closing, minus}
-use Rattle.format.specs.Forms.{Form, atoms_form, rule_form, clause_form, load_form, open_form, claim_form, defined_form}
+use Rattle.format.specs.Forms.{Form, atoms_form, rule_form, clause_form, load_form, open_form, claim_form, defined_form, also_form}
 use Rattle.format.specs.Forms.{decimal_with, decimal, signed, literal_bytes, term_bytes, pair_bytes, parts_bytes, render}
 
 -- The bytes that forms are written with.
@@ -79,6 +79,8 @@ render_written (load_form lo hi ts) =
 render_written (open_form atoms) = parts_bytes_lem decimal decimal_bytes atoms
 render_written (claim_form ps) = parts_bytes_lem pair_bytes pair_bytes_lem ps
 render_written (defined_form atom others) = parts_bytes_lem decimal decimal_bytes (atom ∷ others)
+render_written (also_form g h ls) =
+    join_bytes (decimal g) _ (decimal_bytes g) (join_bytes (decimal h) _ (decimal_bytes h) (parts_bytes_lem literal_bytes literal_bytes_lem ls))
 
 -- What holds of these bytes holds of every byte of a form.
 module _ (p : ℕ → Bool) (holds : (b : ℕ) → written b ≡ true → p b ≡ true) where

@@ -15,7 +15,8 @@ pub record PairText : Type 0 where
   pub value : ℕ
   pub levels : List ℕ
 
--- One form stands on each line. A defined form names at least one atom: the first, and those after it.
+-- One form stands on each line. A defined form names at least one atom: the first, and those after it. An also form is a rule
+-- of a further group: the group's number, then head and body.
 pub data Form : Type 0 where
   atoms_form : ℕ → Form
   rule_form : ℕ → List LiteralText → Form
@@ -24,6 +25,7 @@ pub data Form : Type 0 where
   open_form : List ℕ → Form
   claim_form : List PairText → Form
   defined_form : ℕ → List ℕ → Form
+  also_form : ℕ → ℕ → List LiteralText → Form
 
 -- Bytes: space, brackets, minus, and the end of a line.
 abbrev pub space : ℕ
@@ -75,7 +77,7 @@ module _ {A : Type 0} where
 unfoldable pub pair_bytes : PairText → List ℕ
 pair_bytes p = opening ∷ (decimal p.value ++ parts_bytes decimal p.levels)
 
--- The words that forms begin with: `(atoms`, `(rule`, `(clause`, `(load`, `(open`, `(claim`, `(defined`.
+-- The words that forms begin with: `(atoms`, `(rule`, `(clause`, `(load`, `(open`, `(claim`, `(defined`, `(also`.
 abbrev pub atoms_word : List ℕ
 atoms_word = 40 ∷ 97 ∷ 116 ∷ 111 ∷ 109 ∷ 115 ∷ []
 
@@ -97,6 +99,9 @@ claim_word = 40 ∷ 99 ∷ 108 ∷ 97 ∷ 105 ∷ 109 ∷ []
 abbrev pub defined_word : List ℕ
 defined_word = 40 ∷ 100 ∷ 101 ∷ 102 ∷ 105 ∷ 110 ∷ 101 ∷ 100 ∷ []
 
+abbrev pub also_word : List ℕ
+also_word = 40 ∷ 97 ∷ 108 ∷ 115 ∷ 111 ∷ []
+
 -- A form's line, without the byte that ends it.
 unfoldable pub render : Form → List ℕ
 render (atoms_form n) = atoms_word ++ (space ∷ (decimal n ++ (closing ∷ [])))
@@ -106,6 +111,7 @@ render (load_form lo hi ts) = load_word ++ (space ∷ (signed lo ++ (space ∷ (
 render (open_form atoms) = open_word ++ parts_bytes decimal atoms
 render (claim_form ps) = claim_word ++ parts_bytes pair_bytes ps
 render (defined_form atom others) = defined_word ++ parts_bytes decimal (atom ∷ others)
+render (also_form g h ls) = also_word ++ (space ∷ (decimal g ++ (space ∷ (decimal h ++ parts_bytes literal_bytes ls))))
 
 -- A text is the lines of its forms, each ended by byte 10.
 unfoldable pub render_all : List Form → List ℕ

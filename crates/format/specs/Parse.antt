@@ -1,9 +1,9 @@
 -- The printer read backwards: each piece of the format is read from the front of some bytes, and what is left is handed on.
 use Rattle.std.specs.Prelude.{ℕ, zero, suc, ◌+◌, ◌-◌, ◌*◌, Bool, true, false, cond, not, ◌&&◌, List, [], ◌∷◌, leb, eqb, ℤ, pos, negsuc, length, drop}
-use Rattle.format.specs.Forms.{LiteralText, TermText, PairText, Form, atoms_form, rule_form, clause_form, load_form, open_form, claim_form, defined_form}
+use Rattle.format.specs.Forms.{LiteralText, TermText, PairText, Form, atoms_form, rule_form, clause_form, load_form, open_form, claim_form, defined_form, also_form}
 use Rattle.format.specs.Forms.{space, opening, closing, minus, line_end, not_word}
 use Rattle.format.specs.declared.kinds.Kind.{Kind}
-use Rattle.format.specs.declared.kinds.Kind.TheVariants.{Atoms, Rule, Clause, Load, Open, Claim, Defined, Unknown}
+use Rattle.format.specs.declared.kinds.Kind.TheVariants.{Atoms, Rule, Clause, Load, Open, Claim, Defined, Also, Unknown}
 use Rattle.format.specs.Words.{kind_of, word_of}
 
 -- Something read, with the bytes after it; or a refusal.
@@ -126,6 +126,12 @@ as_defined (atom ∷ others) rest = got (defined_form atom others) rest
 unfoldable pub read_defined : List ℕ → Reading Form
 read_defined bytes = and_then (parts read_number bytes) as_defined
 
+unfoldable pub read_also : List ℕ → Reading Form
+read_also bytes =
+    and_then (skip (space ∷ []) bytes) (λ s after. and_then (read_number after) (λ g rest.
+    and_then (skip (space ∷ []) rest) (λ t next. and_then (read_number next) (λ h last.
+    and_then (parts read_literal last) (λ ls end. got (also_form g h ls) end)))))
+
 unfoldable pub read_as : Kind → List ℕ → Reading Form
 read_as Atoms bytes = read_atoms bytes
 read_as Rule bytes = read_rule bytes
@@ -134,6 +140,7 @@ read_as Load bytes = read_load bytes
 read_as Open bytes = read_open bytes
 read_as Claim bytes = read_claim bytes
 read_as Defined bytes = read_defined bytes
+read_as Also bytes = read_also bytes
 read_as Unknown bytes = refused
 
 -- The form at the front of some bytes: its word tells the kind.

@@ -1,8 +1,8 @@
 -- Fixed words at an offset of a text, and the kinds of forms that they tell.
 use Rattle.std.specs.Prelude.{ℕ, Bool, true, false, cond, ◌&&◌, List, [], ◌∷◌, eqb, drop}
 use Rattle.format.specs.declared.kinds.Kind.{Kind}
-use Rattle.format.specs.declared.kinds.Kind.TheVariants.{Atoms, Rule, Clause, Load, Open, Claim, Defined, Unknown}
-use Rattle.format.specs.Forms.{atoms_word, rule_word, clause_word, load_word, open_word, claim_word, defined_word}
+use Rattle.format.specs.declared.kinds.Kind.TheVariants.{Atoms, Rule, Clause, Load, Open, Claim, Defined, Also, Unknown}
+use Rattle.format.specs.Forms.{atoms_word, rule_word, clause_word, load_word, open_word, claim_word, defined_word, also_word}
 
 -- Whether bytes begin with a word.
 unfoldable pub starts_with : List ℕ → List ℕ → Bool
@@ -23,6 +23,7 @@ word_of Load = load_word
 word_of Open = open_word
 word_of Claim = claim_word
 word_of Defined = defined_word
+word_of Also = also_word
 word_of Unknown = []
 
 -- The kind of form that some bytes begin with.
@@ -34,7 +35,8 @@ kind_of bytes =
     (cond (starts_with load_word bytes) Load
     (cond (starts_with open_word bytes) Open
     (cond (starts_with claim_word bytes) Claim
-    (cond (starts_with defined_word bytes) Defined Unknown))))))
+    (cond (starts_with defined_word bytes) Defined
+    (cond (starts_with also_word bytes) Also Unknown)))))))
 
 unfoldable pub kind_at : List ℕ → ℕ → Kind
 kind_at text at = kind_of (drop at text)

@@ -14,6 +14,7 @@ pub enum Kind {
     Open,
     Claim,
     Defined,
+    Also,
     Unknown,
 }
 
@@ -41,6 +42,9 @@ pub fn kind_at(text: &[u8], at: usize) -> Kind
     }
     if word_at(text, at, b"(defined") {
         return Kind::Defined;
+    }
+    if word_at(text, at, b"(also") {
+        return Kind::Also;
     }
     Kind::Unknown
 }

@@ -13,7 +13,7 @@ use Rattle.tables.specs.Limits.{max_atoms}
 use Rattle.format.specs.declared.kinds.Kind.TheVariants.{Atoms}
 use Rattle.numerals.specs.declared.numbers.Number.TheVariants.{Read, Refused}
 use Rattle.format.specs.Forms.{Form, atoms_form, space, closing}
-use Rattle.format.specs.Views.{view_of, of_kind, same_kind, kind_number}
+use Rattle.format.specs.Views.{view_of, of_kind, rule_kind, same_kind, kind_number}
 use Rattle.format.specs.Words.{word_at}
 use Rattle.format.specs.Parse.{got, and_then, read_atoms}
 use Rattle.numerals.specs.internal.Offsets.{capped, number_at}
@@ -21,8 +21,8 @@ use Rattle.numerals.proofs.CappedLaws.{capped_small, capped_within}
 use Rattle.items.proofs.ItemLaws.{number_none_read, byte_got, byte_none}
 use Rattle.items.proofs.ItemChains.{offset_left}
 use Rattle.judging.specs.declared.reached.Reached.{Reached}
-use Rattle.judging.specs.Judging.{rises_from, bound_within, numbers_within}
-use Rattle.judging.specs.internal.Shapes.{capped_rise, parts_in, shape_of}
+use Rattle.judging.specs.Judging.{rises_from, bound_within, group_within, numbers_within}
+use Rattle.judging.specs.internal.Shapes.{capped_rise, parts_in, number_in, shape_of}
 use Rattle.forms.specs.declared.Line.TheVariants.{Formed, NoForm}
 use Rattle.forms.specs.Entries.{marks_given}
 use Rattle.forms.specs.internal.Readers.{WellPlaced, Forms}
@@ -31,13 +31,13 @@ use Rattle.wellfounded.specs.Lists.{all}
 
 -- Its numbers within their limits.
 atoms_numbers : (s : Reached) (n : ℕ) → numbers_within s (atoms_form n) ≡ leb n max_atoms
-unfolding numbers_within view_of bound_within all
+unfolding numbers_within group_within view_of of_kind same_kind kind_number bound_within all
 atoms_numbers s n = simp and-true
 
 atoms_shape :
     (s : Reached) (n : ℕ) {size : ℕ} → size ≡ capped n →
-    record { kind = Atoms; size = size; parts = 0; within = leb size max_atoms; rising = true } ≡ shape_of s (atoms_form n)
-unfolding shape_of parts_in view_of same_kind kind_number capped_rise rises_from
+    record { kind = Atoms; number = size; parts = 0; within = leb size max_atoms; rising = true } ≡ shape_of s (atoms_form n)
+unfolding shape_of parts_in number_in view_of rule_kind same_kind kind_number capped_rise rises_from
 atoms_shape s n e = rw (e, capped_within n max_atoms (omega arith), atoms_numbers)
 
 -- Within the limits, as many marks are put to 0 as there are atoms.
@@ -75,7 +75,7 @@ module _ (text : List ℕ) (at : ℕ) {size next : ℕ} (spaced : word_at text a
   pub atoms_formed :
       {s : Reached} (before : List ℕ) {marks : List ℕ} → marks ≡ sets before 0 (replicate size 0) →
       Forms s text (read_atoms (drop at text))
-      (Formed (record { kind = Atoms; size = size; parts = 0; within = leb size max_atoms; rising = true }) (next + 1))
+      (Formed (record { kind = Atoms; number = size; parts = 0; within = leb size max_atoms; rising = true }) (next + 1))
       (λ f. marks ≡ sets before 0 (marks_given s f))
   atoms_formed {s} before put =
       let n = number_after text at spaced sized in

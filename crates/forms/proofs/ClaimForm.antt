@@ -13,14 +13,14 @@ use Rattle.wellfounded.proofs.Tests.{first, second}
 use Rattle.tables.specs.Limits.{max_atoms}
 use Rattle.format.specs.declared.kinds.Kind.TheVariants.{Claim}
 use Rattle.format.specs.Forms.{PairText, Form, claim_form}
-use Rattle.format.specs.Views.{view_of, of_kind, same_kind, kind_number}
+use Rattle.format.specs.Views.{view_of, of_kind, rule_kind, same_kind, kind_number}
 use Rattle.format.specs.Parse.{got, and_then, parts, read_pair}
 use Rattle.format.specs.Parse.{read_claim}
 use Rattle.numerals.proofs.CappedLaws.{capped_small}
 use Rattle.judging.specs.declared.reached.Reached.{Reached}
 use Rattle.judging.specs.States.{groups_reached}
-use Rattle.judging.specs.Judging.{pair_within, may_follow, rises_from, parts_in_order, in_order, bound_within, numbers_within, levels_for, levelled, if_levelled}
-use Rattle.judging.specs.internal.Shapes.{capped_rise, parts_in, shape_of}
+use Rattle.judging.specs.Judging.{pair_within, may_follow, not_falling, rises_from, parts_in_order, in_order, bound_within, group_within, numbers_within, levels_for, levelled, if_levelled}
+use Rattle.judging.specs.internal.Shapes.{capped_rise, parts_in, number_in, shape_of}
 use Rattle.lists.specs.declared.Parts.{Parts}
 use Rattle.lists.specs.declared.Parts.TheVariants.{Listed, NoList}
 use Rattle.lists.specs.internal.Lists.{Lists}
@@ -31,7 +31,7 @@ use Rattle.forms.proofs.FormLaws.{form_none, form_got}
 
 -- Its numbers within their limits.
 claim_numbers : (s : Reached) (ps : List PairText) → numbers_within s (claim_form ps) ≡ (all pair_within ps && leb (length ps) max_atoms)
-unfolding numbers_within view_of bound_within all
+unfolding numbers_within group_within view_of of_kind same_kind kind_number bound_within all
 claim_numbers s ps = refl
 
 claim_got : (bs : List ℕ) {ps : List PairText} {rest : List ℕ} → parts read_pair bs ≡ got ps rest → read_claim bs ≡ got (claim_form ps) rest
@@ -40,8 +40,8 @@ claim_got bs e = rw e
 
 claim_shape :
     (s : Reached) (ps : List PairText) {count : ℕ} {fine : Bool} → count ≡ length ps → fine ≡ all pair_within ps →
-    record { kind = Claim; size = 0; parts = count; within = fine && leb count max_atoms; rising = true } ≡ shape_of s (claim_form ps)
-unfolding shape_of parts_in view_of same_kind kind_number capped_rise rises_from
+    record { kind = Claim; number = 0; parts = count; within = fine && leb count max_atoms; rising = true } ≡ shape_of s (claim_form ps)
+unfolding shape_of parts_in number_in view_of rule_kind same_kind kind_number capped_rise rises_from
 claim_shape s ps n t = rw (n, t, capped_small 0 (omega arith), claim_numbers)
 
 -- Its levels, and in order it has a pair for each atom.
@@ -50,7 +50,7 @@ unfolding levelled view_of
 claim_levelled s ps = refl
 
 claim_pairs : (s : Reached) (ps : List PairText) → in_order s (claim_form ps) ≡ true → length ps ≡ s.size
-unfolding in_order parts_in_order rises_from view_of of_kind same_kind kind_number
+unfolding in_order not_falling parts_in_order rises_from view_of of_kind same_kind kind_number
 claim_pairs s ps h = eqb-true (length ps) s.size (second (may_follow Claim s.phase) _ h)
 
 module _ {s : Reached} {text : List ℕ} (at : ℕ) {answer : Parts} {P : List PairText → Type 0} {W : Form → Type 0}
@@ -69,7 +69,7 @@ module _ {s : Reached} {text : List ℕ} (at : ℕ) {answer : Parts} {P : List P
     pub claim_formed :
         rise ≡ true → ((ps : List PairText) → length ps ≡ s.size → P ps → W (claim_form ps)) →
         Forms s text (if_levelled s (read_claim (drop at text)))
-        (Formed (record { kind = Claim; size = 0; parts = count; within = fine && leb count max_atoms; rising = true }) end) W
+        (Formed (record { kind = Claim; number = 0; parts = count; within = fine && leb count max_atoms; rising = true }) end) W
     unfolding if_levelled
     claim_formed h w =
         let g = gathered list e in

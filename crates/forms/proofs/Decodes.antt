@@ -1,4 +1,4 @@
--- What was read decodes from the tables to the rules, clauses and load lines that the forms mean.
+-- What was read decodes from the tables to the rules with their groups, the clauses and the load lines that the forms mean.
 -- Assumes nothing.
 use Prim.Native.Nat.{ℕ, suc, ◌+◌, ◌*◌, ◌/◌}
 use mathlib.Core.Path.{◌≡◌, refl, ap, fun_ext, ◌∙◌}
@@ -11,19 +11,19 @@ use lib.Seq.{get_or-append-add, take_at, drop_at}
 use Rattle.wellfounded.specs.Lists.{tabulate}
 use Rattle.wellfounded.specs.Literals.{body_at}
 use Rattle.wellfounded.specs.Definitions.{Rule}
-use Rattle.tables.specs.Rows.{rule_count, rule_head, rule_start, rule_size, rule_body, rule_at, rules_of}
+use Rattle.tables.specs.Rows.{rule_count, rule_head, rule_start, rule_size, rule_group, rule_body, rule_at, rules_of}
 use Rattle.tables.specs.Rows.{clause_count, clause_start, clause_size, clause_at, clauses_of}
 use Rattle.tables.specs.Loads.{Term, Load, load_count, index_of, load_entry, load_low, load_high, load_start, load_size, term_at, terms_at, load_at, loads_of}
 use Rattle.format.specs.declared.kinds.Kind.TheVariants as FormKind
 use Rattle.format.specs.Forms.{LiteralText, TermText, Form}
-use Rattle.format.specs.Views.{view_of, of_kind}
+use Rattle.format.specs.Views.{view_of, kind_in, rule_kind, of_kind}
 use Rattle.items.specs.Items.{literal_code}
 use Rattle.judging.specs.declared.reached.Reached.{Reached}
 use Rattle.judging.specs.LentTables.{Rules, Literals, Clauses, Loads, LoadLiterals, Minutes}
 use Rattle.judging.specs.States.{start, advanced, after}
 use Rattle.forms.specs.Contents.{Contents}
 use Rattle.forms.specs.Entries.{entries_of, given_anew, joined_by, joined, entries_from, book_entries, literals_in, terms_in, rule_row, clause_row, load_row}
-use Rattle.forms.specs.Decoded.{codes_of, term_of, rule_in, clause_in, load_in, rules_in, clauses_in, loads_in}
+use Rattle.forms.specs.Decoded.{codes_of, term_of, rule_in, group_in, clause_in, load_in, rules_in, groups_in, clauses_in, loads_in}
 
 module _ {A : Type 0} where
   -- Beyond its first row a table is the table of the other rows.
@@ -37,17 +37,28 @@ module _ {A : Type 0} where
 
 -- A row decodes to a rule, a clause or a load line, and those after it as they would alone.
 rule_decodes :
-    (head first size : ℕ) (rest literals : List ℕ) →
-    rules_of (head ∷ first ∷ size ∷ rest) literals ≡ record { head = head; body = body_at literals first size } ∷ rules_of rest literals
+    (head first size group : ℕ) (rest literals : List ℕ) →
+    rules_of (head ∷ first ∷ size ∷ group ∷ rest) literals ≡ record { head = head; body = body_at literals first size } ∷ rules_of rest literals
 unfolding rules_of rule_count rule_at rule_head rule_body rule_start rule_size
-rule_decodes head first size rest literals =
-    let row : List ℕ = head ∷ first ∷ size ∷ [] in
-    first_row (length (row ++ rest) / 3) (length rest / 3) (rule_at (row ++ rest) literals) (rule_at rest literals) (omega arith) λ k.
+rule_decodes head first size group rest literals =
+    let row : List ℕ = head ∷ first ∷ size ∷ group ∷ [] in
+    first_row (length (row ++ rest) / 4) (length rest / 4) (rule_at (row ++ rest) literals) (rule_at rest literals) (omega arith) λ k.
     rw (
-      beyond_row row rest (suc k * 3) (k * 3) 0 (omega arith),
-      beyond_row row rest (suc k * 3 + 1) (k * 3 + 1) 0 (omega arith),
-      beyond_row row rest (suc k * 3 + 2) (k * 3 + 2) 0 (omega arith),
+      beyond_row row rest (suc k * 4) (k * 4) 0 (omega arith),
+      beyond_row row rest (suc k * 4 + 1) (k * 4 + 1) 0 (omega arith),
+      beyond_row row rest (suc k * 4 + 2) (k * 4 + 2) 0 (omega arith),
     )
+
+-- It decodes to a group too.
+abbrev groups_of : List ℕ → List ℕ
+groups_of rules = tabulate (rule_count rules) (rule_group rules)
+
+group_decodes : (head first size group : ℕ) (rest : List ℕ) → groups_of (head ∷ first ∷ size ∷ group ∷ rest) ≡ group ∷ groups_of rest
+unfolding rule_count rule_group
+group_decodes head first size group rest =
+    let row : List ℕ = head ∷ first ∷ size ∷ group ∷ [] in
+    first_row (length (row ++ rest) / 4) (length rest / 4) (rule_group (row ++ rest)) (rule_group rest) (omega arith) λ k.
+    beyond_row row rest (suc k * 4 + 3) (k * 4 + 3) 0 (omega arith)
 
 clause_decodes :
     (first size : ℕ) (rest literals : List ℕ) →
@@ -134,7 +145,7 @@ rules_from :
 unfolding entries_from joined joined_by given_anew entries_of rule_row literals_in rules_in rule_in after advanced
 rules_from s [] before e = no_rules_lem _
 rules_from s (f ∷ fs) before e =
-    step (of_kind FormKind.Rule f) (rules_from (after s f) fs (before ++ codes) (stored_length before literal_code (view_of f).literals _ e))
+    step (rule_kind (kind_in f)) (rules_from (after s f) fs (before ++ codes) (stored_length before literal_code (view_of f).literals _ e))
   where
     codes : List ℕ
     codes = map literal_code (view_of f).literals
@@ -144,12 +155,27 @@ rules_from s (f ∷ fs) before e =
 
     step :
         (b : Bool) → rules_of (later Rules) ((before ++ codes) ++ later Literals) ≡ rules_in fs →
-        rules_of (cond b ((view_of f).head ∷ s.literals ∷ length (view_of f).literals ∷ []) [] ++ later Rules) (before ++ (codes ++ later Literals))
+        rules_of (cond b ((view_of f).head ∷ s.literals ∷ length (view_of f).literals ∷ (view_of f).group ∷ []) [] ++ later Rules) (before ++ (codes ++ later Literals))
         ≡ cond b (record { head = (view_of f).head; body = codes_of (view_of f).literals } ∷ []) [] ++ rules_in fs
     step true more =
         rw (rule_decodes, literals_at before (view_of f).literals (later Literals) s.literals e, ← append_assoc before codes (later Literals))
         (ap (λ (rs : List Rule). record { head = (view_of f).head; body = codes_of (view_of f).literals } ∷ rs) more)
     step false more = rw (← append_assoc before codes (later Literals)) more
+
+groups_from : (s : Reached) (fs : List Form) → groups_of (entries_from s fs Rules) ≡ groups_in fs
+unfolding entries_from joined joined_by given_anew entries_of rule_row groups_in group_in rule_count tabulate
+groups_from s [] = refl
+groups_from s (f ∷ fs) = step (rule_kind (kind_in f)) (groups_from (after s f) fs)
+  where
+    later : Contents
+    later = entries_from (after s f) fs
+
+    step :
+        (b : Bool) → groups_of (later Rules) ≡ groups_in fs →
+        groups_of (cond b ((view_of f).head ∷ s.literals ∷ length (view_of f).literals ∷ (view_of f).group ∷ []) [] ++ later Rules)
+        ≡ cond b ((view_of f).group ∷ []) [] ++ groups_in fs
+    step true more = rw group_decodes (ap (λ (gs : List ℕ). (view_of f).group ∷ gs) more)
+    step false more = more
 
 clauses_from :
     (s : Reached) (fs : List Form) (before : List ℕ) → length before ≡ s.literals →
@@ -210,6 +236,11 @@ loads_from s (f ∷ fs) codes before e d =
 pub rules_decode : (fs : List Form) → rules_of (book_entries fs Rules) (book_entries fs Literals) ≡ rules_in fs
 unfolding book_entries start
 rules_decode fs = rules_from start fs [] refl
+
+-- Each rule has the group that its form names.
+pub groups_decode : (fs : List Form) → tabulate (rule_count (book_entries fs Rules)) (rule_group (book_entries fs Rules)) ≡ groups_in fs
+unfolding book_entries
+groups_decode fs = groups_from start fs
 
 pub clauses_decode : (fs : List Form) → clauses_of (book_entries fs Clauses) (book_entries fs Literals) ≡ clauses_in fs
 unfolding book_entries start

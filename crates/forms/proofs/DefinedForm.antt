@@ -10,13 +10,13 @@ use lib.ListN.{length, replicate}
 use lib.Seq.{sets}
 use Rattle.wellfounded.specs.Lists.{all}
 use Rattle.format.specs.Forms.{Form, defined_form}
-use Rattle.format.specs.Views.{view_of, of_kind, same_kind, kind_number}
+use Rattle.format.specs.Views.{view_of, of_kind, rule_kind, same_kind, kind_number}
 use Rattle.format.specs.Parse.{Reading, got, refused, and_then, read_number, parts, as_defined, read_defined}
 use Rattle.format.specs.declared.kinds.Kind.TheVariants.{Defined}
 use Rattle.numerals.proofs.CappedLaws.{capped_small}
 use Rattle.judging.specs.declared.reached.Reached.{Reached}
-use Rattle.judging.specs.Judging.{atom_bound, bound_within, numbers_within}
-use Rattle.judging.specs.internal.Shapes.{parts_in, shape_of, capped_rise}
+use Rattle.judging.specs.Judging.{atom_bound, bound_within, group_within, numbers_within}
+use Rattle.judging.specs.internal.Shapes.{parts_in, number_in, shape_of, capped_rise}
 use Rattle.lists.specs.declared.Parts.{Parts}
 use Rattle.lists.specs.declared.Parts.TheVariants.{Listed, NoList}
 use Rattle.lists.specs.internal.Lists.{Lists, marked}
@@ -32,7 +32,7 @@ use Rattle.forms.proofs.NamedAtoms.{named_bound, named_laid}
 pub defined_numbers :
     (s : Reached) (atom : ℕ) (others : List ℕ) →
     numbers_within s (defined_form atom others) ≡ all (λ each. ltb each (atom_bound s)) (atom ∷ others)
-unfolding numbers_within view_of bound_within all
+unfolding numbers_within group_within view_of of_kind same_kind kind_number bound_within all
 defined_numbers s atom others = simp and-true
 
 defined_got :
@@ -48,8 +48,8 @@ defined_none bs e = rw e
 defined_shape :
     (s : Reached) (atom : ℕ) (others : List ℕ) {count : ℕ} {fine rise : Bool} → count ≡ length (atom ∷ others) →
     fine ≡ all (λ (each : ℕ). ltb each (atom_bound s)) (atom ∷ others) → rise ≡ capped_rise (atom ∷ others) →
-    record { kind = Defined; size = 0; parts = count; within = fine; rising = rise } ≡ shape_of s (defined_form atom others)
-unfolding shape_of parts_in view_of same_kind kind_number
+    record { kind = Defined; number = 0; parts = count; within = fine; rising = rise } ≡ shape_of s (defined_form atom others)
+unfolding shape_of parts_in number_in view_of rule_kind same_kind kind_number
 defined_shape s atom others n t r = rw (n, t, r, capped_small 0 (omega arith), defined_numbers)
 
 defined_laid :
@@ -83,7 +83,7 @@ module _ (s : Reached) (text : List ℕ) (before marks : List ℕ) where
           step (x ∷ xs) n r = absurd (omega arith)
 
       pub defined_some :
-          (count ≡ 0 → ⊥) → Wanted (read_defined bytes) (Formed (record { kind = Defined; size = 0; parts = count; within = fine; rising = rise }) next)
+          (count ≡ 0 → ⊥) → Wanted (read_defined bytes) (Formed (record { kind = Defined; number = 0; parts = count; within = fine; rising = rise }) next)
       defined_some some =
           let g = gathered list e in
           step g.xs g.rest g.reads g.counted g.tested g.rises g.ended g.laid
@@ -92,7 +92,7 @@ module _ (s : Reached) (text : List ℕ) (before marks : List ℕ) where
               (xs rest : List ℕ) → parts read_number bytes ≡ got xs rest → count ≡ length xs →
               fine ≡ all (λ (atom : ℕ). ltb atom (atom_bound s)) xs → rise ≡ capped_rise xs → next ≡ length text - length rest →
               (all (λ (atom : ℕ). ltb atom (atom_bound s)) xs ≡ true → Written xs) →
-              Wanted (read_defined bytes) (Formed (record { kind = Defined; size = 0; parts = count; within = fine; rising = rise }) next)
+              Wanted (read_defined bytes) (Formed (record { kind = Defined; number = 0; parts = count; within = fine; rising = rise }) next)
           step [] rest reads n t r end laid = absurd (some n)
           step (x ∷ xs) rest reads n t r end laid =
               form_got s text (defined_form x xs) rest (defined_got bytes reads) (defined_shape s x xs n t r) end (defined_laid s before x xs laid)

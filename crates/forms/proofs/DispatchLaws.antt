@@ -10,13 +10,13 @@ use lib.ListN.{length, drop, length-append, length-drop}
 use lib.Seq.{sets, drop-drop}
 use Rattle.wellfounded.specs.Lists.{all, join_below}
 use Rattle.format.specs.declared.kinds.Kind.{Kind}
-use Rattle.format.specs.declared.kinds.Kind.TheVariants.{Atoms, Rule, Clause, Load, Open, Claim, Defined, Unknown}
-use Rattle.format.specs.Forms.{LiteralText, TermText, PairText, Form, atoms_form, rule_form, clause_form, load_form, open_form, claim_form, defined_form}
+use Rattle.format.specs.declared.kinds.Kind.TheVariants.{Atoms, Rule, Clause, Load, Open, Claim, Defined, Also, Unknown}
+use Rattle.format.specs.Forms.{LiteralText, TermText, PairText, Form, atoms_form, rule_form, clause_form, load_form, open_form, claim_form, defined_form, also_form}
 use Rattle.format.specs.Forms.{space, closing}
-use Rattle.format.specs.Views.{view_of, of_kind, same_kind, kind_number}
+use Rattle.format.specs.Views.{view_of, of_kind, rule_kind, same_kind, kind_number}
 use Rattle.format.specs.Words.{word_of, kind_at}
 use Rattle.format.specs.Parse.{Reading, got, refused, Holds, and_then, skip, read_number, read_signed, read_literal, read_term, read_pair, parts}
-use Rattle.format.specs.Parse.{read_atoms, read_rule, read_clause, read_load, read_open, read_claim, as_defined, read_defined, read_as, read_form}
+use Rattle.format.specs.Parse.{read_atoms, read_rule, read_clause, read_load, read_open, read_claim, as_defined, read_defined, read_also, read_as, read_form}
 use Rattle.items.specs.Items.{literal_code, level_columns}
 use Rattle.format.proofs.Lines.{kind_begins}
 use Rattle.judging.specs.declared.reached.Reached.{Reached}
@@ -67,10 +67,16 @@ module _ (P : Form → Type 0) (bytes : List ℕ) where
   only_atoms h =
       then_any P (skip (space ∷ []) bytes) _ λ s after. then_any P (read_number after) _ λ n rest. then_any P (skip (closing ∷ []) rest) _ λ c end. h n
 
-  only_rules : ((head : ℕ) (ls : List LiteralText) → P (rule_form head ls)) → Holds (λ f end. P f) (read_rule bytes)
+  pub only_rules : ((head : ℕ) (ls : List LiteralText) → P (rule_form head ls)) → Holds (λ f end. P f) (read_rule bytes)
   unfolding read_rule
   only_rules h =
       then_any P (skip (space ∷ []) bytes) _ λ s after. then_any P (read_number after) _ λ head rest. then_any P (parts read_literal rest) _ λ ls end. h head ls
+
+  only_also : ((group head : ℕ) (ls : List LiteralText) → P (also_form group head ls)) → Holds (λ f end. P f) (read_also bytes)
+  unfolding read_also
+  only_also h =
+      then_any P (skip (space ∷ []) bytes) _ λ s after. then_any P (read_number after) _ λ group rest. then_any P (skip (space ∷ []) rest) _ λ t next.
+      then_any P (read_number next) _ λ head last. then_any P (parts read_literal last) _ λ ls end. h group head ls
 
   only_clauses : ((ls : List LiteralText) → P (clause_form ls)) → Holds (λ f end. P f) (read_clause bytes)
   unfolding read_clause
@@ -158,7 +164,7 @@ module _ {s : Reached} {text : List ℕ} (at : ℕ) {result : Kind} {answer : Li
       (Stored s before
       (lent_tables (before Rules) (before Literals) (before Clauses) (before Loads) (before LoadLiterals) (before Minutes) marks₁
       (before Values) (before Levels)))
-  unfolding read_as word_of lent_tables store place_in given_anew count_in entries_of literals_in terms_in rule_row clause_row load_row marks_given state_values state_levels view_of of_kind same_kind kind_number
+  unfolding read_as word_of lent_tables store place_in given_anew count_in entries_of literals_in terms_in rule_row clause_row load_row marks_given state_values state_levels view_of of_kind rule_kind same_kind kind_number
   atoms_form_lem marks₁ e read =
       lifted_plain (drop at text) (Stored s before _) (read_atoms (drop (at + 6) text)) (read_as_lem text at Atoms is e)
       (only_atoms _ _ λ n. refl) (only_atoms _ _ λ n w. stored_tables s (atoms_form n) before _ refl refl refl refl refl refl w refl (no_levels s (before Levels))) read
@@ -170,7 +176,7 @@ module _ {s : Reached} {text : List ℕ} (at : ℕ) {result : Kind} {answer : Li
       (Stored s before
       (lent_tables (before Rules) (before Literals) (before Clauses) (before Loads) (before LoadLiterals) (before Minutes) marks₁
       (before Values) (before Levels)))
-  unfolding read_as word_of lent_tables store place_in given_anew count_in entries_of literals_in terms_in rule_row clause_row load_row marks_given state_values state_levels view_of of_kind same_kind kind_number
+  unfolding read_as word_of lent_tables store place_in given_anew count_in entries_of literals_in terms_in rule_row clause_row load_row marks_given state_values state_levels view_of of_kind rule_kind same_kind kind_number
   defined_form_lem marks₁ e read =
       lifted_plain (drop at text) (Stored s before _) (read_defined (drop (at + 8) text)) (read_as_lem text at Defined is e)
       (only_defined _ _ λ atom others. refl) (only_defined _ _ λ atom others w. stored_tables s (defined_form atom others) before _ refl refl refl refl refl refl w refl (no_levels s (before Levels))) read
@@ -184,10 +190,24 @@ module _ {s : Reached} {text : List ℕ} (at : ℕ) {result : Kind} {answer : Li
       (Stored s before
       (lent_tables rules₁ literals₁ (before Clauses) (before Loads) (before LoadLiterals) (before Minutes) (before Marks) (before Values)
       (before Levels)))
-  unfolding read_as word_of lent_tables store place_in given_anew count_in entries_of literals_in terms_in rule_row clause_row load_row marks_given state_values state_levels view_of of_kind same_kind kind_number
+  unfolding read_as word_of lent_tables store place_in given_anew count_in entries_of literals_in terms_in rule_row clause_row load_row marks_given state_values state_levels view_of of_kind rule_kind same_kind kind_number
   rule_form_lem rules₁ literals₁ e read =
       lifted_plain (drop at text) (Stored s before _) (read_rule (drop (at + 5) text)) (read_as_lem text at Rule is e)
       (only_rules _ _ λ head ls. refl) (only_rules _ _ λ head ls w. stored_tables s (rule_form head ls) before _ w.0 w.1 refl refl refl refl refl refl (no_levels s (before Levels))) read
+
+  pub also_form_lem :
+      (rules₁ literals₁ : List ℕ) → result ≡ Also →
+      Forms s text (read_also (drop (at + 5) text)) answer (λ f.
+      (rules₁ ≡ sets (before Rules) s.rules (rule_row s f)) ×
+      (literals₁ ≡ sets (before Literals) s.literals (map literal_code (literals_in f)))) →
+      Forms s text (if_levelled s (read_form (drop at text))) answer
+      (Stored s before
+      (lent_tables rules₁ literals₁ (before Clauses) (before Loads) (before LoadLiterals) (before Minutes) (before Marks) (before Values)
+      (before Levels)))
+  unfolding read_as word_of lent_tables store place_in given_anew count_in entries_of literals_in terms_in rule_row clause_row load_row marks_given state_values state_levels view_of of_kind rule_kind same_kind kind_number
+  also_form_lem rules₁ literals₁ e read =
+      lifted_plain (drop at text) (Stored s before _) (read_also (drop (at + 5) text)) (read_as_lem text at Also is e)
+      (only_also _ _ λ group head ls. refl) (only_also _ _ λ group head ls w. stored_tables s (also_form group head ls) before _ w.0 w.1 refl refl refl refl refl refl (no_levels s (before Levels))) read
 
   pub clause_form_lem :
       (literals₁ clauses₁ : List ℕ) → result ≡ Clause →
@@ -198,7 +218,7 @@ module _ {s : Reached} {text : List ℕ} (at : ℕ) {result : Kind} {answer : Li
       (Stored s before
       (lent_tables (before Rules) literals₁ clauses₁ (before Loads) (before LoadLiterals) (before Minutes) (before Marks) (before Values)
       (before Levels)))
-  unfolding read_as word_of lent_tables store place_in given_anew count_in entries_of literals_in terms_in rule_row clause_row load_row marks_given state_values state_levels view_of of_kind same_kind kind_number
+  unfolding read_as word_of lent_tables store place_in given_anew count_in entries_of literals_in terms_in rule_row clause_row load_row marks_given state_values state_levels view_of of_kind rule_kind same_kind kind_number
   clause_form_lem literals₁ clauses₁ e read =
       lifted_plain (drop at text) (Stored s before _) (read_clause (drop (at + 7) text)) (read_as_lem text at Clause is e)
       (only_clauses _ _ λ ls. refl) (only_clauses _ _ λ ls w. stored_tables s (clause_form ls) before _ refl w.1 w.0 refl refl refl refl refl (no_levels s (before Levels))) read
@@ -213,7 +233,7 @@ module _ {s : Reached} {text : List ℕ} (at : ℕ) {result : Kind} {answer : Li
       (Stored s before
       (lent_tables (before Rules) (before Literals) (before Clauses) loads₁ loadLiterals₁ minutes₁ (before Marks) (before Values)
       (before Levels)))
-  unfolding read_as word_of lent_tables store place_in given_anew count_in entries_of literals_in terms_in rule_row clause_row load_row marks_given state_values state_levels view_of of_kind same_kind kind_number
+  unfolding read_as word_of lent_tables store place_in given_anew count_in entries_of literals_in terms_in rule_row clause_row load_row marks_given state_values state_levels view_of of_kind rule_kind same_kind kind_number
   load_form_lem loads₁ loadLiterals₁ minutes₁ e read =
       lifted_plain (drop at text) (Stored s before _) (read_load (drop (at + 5) text)) (read_as_lem text at Load is e)
       (only_loads _ _ λ lo hi ts. refl) (only_loads _ _ λ lo hi ts w. stored_tables s (load_form lo hi ts) before _ refl refl refl w.0 w.1 w.2 refl refl (no_levels s (before Levels))) read
@@ -225,7 +245,7 @@ module _ {s : Reached} {text : List ℕ} (at : ℕ) {result : Kind} {answer : Li
       (Stored s before
       (lent_tables (before Rules) (before Literals) (before Clauses) (before Loads) (before LoadLiterals) (before Minutes) (before Marks) values₁
       (before Levels)))
-  unfolding read_as word_of lent_tables store place_in given_anew count_in entries_of literals_in terms_in rule_row clause_row load_row marks_given state_values state_levels view_of of_kind same_kind kind_number
+  unfolding read_as word_of lent_tables store place_in given_anew count_in entries_of literals_in terms_in rule_row clause_row load_row marks_given state_values state_levels view_of of_kind rule_kind same_kind kind_number
   open_form_lem values₁ e read =
       lifted_plain (drop at text) (Stored s before _) (read_open (drop (at + 5) text)) (read_as_lem text at Open is e)
       (only_open _ _ λ atoms. refl) (only_open _ _ λ atoms w. stored_tables s (open_form atoms) before _ refl refl refl refl refl refl refl w (no_levels s (before Levels))) read
@@ -238,7 +258,7 @@ module _ {s : Reached} {text : List ℕ} (at : ℕ) {result : Kind} {answer : Li
       (Stored s before
       (lent_tables (before Rules) (before Literals) (before Clauses) (before Loads) (before LoadLiterals)
       (before Minutes) (before Marks) values₁ levels₁))
-  unfolding read_as word_of lent_tables store place_in given_anew count_in entries_of literals_in terms_in rule_row clause_row load_row marks_given state_values state_levels view_of of_kind same_kind kind_number
+  unfolding read_as word_of lent_tables store place_in given_anew count_in entries_of literals_in terms_in rule_row clause_row load_row marks_given state_values state_levels view_of of_kind rule_kind same_kind kind_number
   claim_form_lem values₁ levels₁ e read =
       lifted (drop at text) (Stored s before _) (read_claim (drop (at + 6) text)) (read_as_lem text at Claim is e)
       (only_claims _ _ λ ps w. stored_tables s (claim_form ps) before _ refl refl refl refl refl refl refl w.0 w.1) read

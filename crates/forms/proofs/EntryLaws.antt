@@ -13,9 +13,9 @@ use Rattle.wellfounded.specs.Lists.{join_below}
 use Rattle.wellfounded.proofs.Tests.{second}
 use Rattle.tables.specs.Rows.{rule_width, clause_width}
 use Rattle.tables.specs.Loads.{load_width}
-use Rattle.format.specs.declared.kinds.Kind.TheVariants.{Rule, Clause, Load, Open, Claim}
+use Rattle.format.specs.declared.kinds.Kind.TheVariants.{Clause, Load, Open, Claim}
 use Rattle.format.specs.Forms.{TermText, PairText, Form}
-use Rattle.format.specs.Views.{view_of, kind_in, same_kind, of_kind}
+use Rattle.format.specs.Views.{view_of, kind_in, rule_kind, same_kind, of_kind}
 use Rattle.format.proofs.ViewLaws.{lists_by_kind}
 use Rattle.items.specs.Items.{literal_code, level_in, level_columns}
 use Rattle.judging.specs.declared.reached.Reached.{Reached}
@@ -44,8 +44,8 @@ some_or_none false n m = omega arith
 
 module _ (s : Reached) (f : Form) where
   pub rules_added : s.rules + length (rule_row s f) ≡ (after s f).rules
-  unfolding rule_row of_kind after advanced
-  rules_added = ap (λ (n : ℕ). s.rules + n) (row_length (same_kind (kind_in f) Rule) _ rule_width refl)
+  unfolding rule_row after advanced
+  rules_added = ap (λ (n : ℕ). s.rules + n) (row_length (rule_kind (kind_in f)) _ rule_width refl)
 
   pub literals_added : s.literals + length (map literal_code (literals_in f)) ≡ (after s f).literals
   unfolding literals_in after advanced

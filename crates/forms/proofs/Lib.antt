@@ -14,4 +14,5 @@ pub mod NamedAtoms
 pub mod OpenForm
 pub mod DefinedForm
 pub mod DispatchLaws
+pub mod AlsoForm
 pub mod Computes

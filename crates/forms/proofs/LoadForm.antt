@@ -15,7 +15,7 @@ use Rattle.tables.specs.Limits.{max_bound}
 use Rattle.format.specs.declared.kinds.Kind.TheVariants.{Load}
 use Rattle.numerals.specs.declared.signed.Signed.TheVariants.{Whole, Malformed}
 use Rattle.format.specs.Forms.{TermText, Form, load_form, space}
-use Rattle.format.specs.Views.{view_of, same_kind, kind_number}
+use Rattle.format.specs.Views.{view_of, of_kind, rule_kind, same_kind, kind_number}
 use Rattle.format.specs.Words.{word_at}
 use Rattle.format.specs.Parse.{got, and_then, skip, parts, read_signed, read_term}
 use Rattle.format.specs.Parse.{read_load}
@@ -23,8 +23,8 @@ use Rattle.numerals.specs.internal.Offsets.{clamped, signed_at}
 use Rattle.numerals.proofs.CappedLaws.{capped_small, clamped_small, clamped_within}
 use Rattle.items.proofs.ItemLaws.{signed_none, byte_got, byte_none}
 use Rattle.judging.specs.declared.reached.Reached.{Reached}
-use Rattle.judging.specs.Judging.{term_within, bound_within, rises_from, numbers_within}
-use Rattle.judging.specs.internal.Shapes.{capped_rise, parts_in, shape_of}
+use Rattle.judging.specs.Judging.{term_within, bound_within, rises_from, group_within, numbers_within}
+use Rattle.judging.specs.internal.Shapes.{capped_rise, parts_in, number_in, shape_of}
 use Rattle.lists.specs.declared.Parts.{Parts}
 use Rattle.lists.specs.declared.Parts.TheVariants.{Listed, NoList}
 use Rattle.lists.specs.internal.Lists.{Lists}
@@ -37,7 +37,7 @@ use Rattle.forms.proofs.FormLaws.{signed_after, form_none, form_got}
 load_numbers :
     (s : Reached) (lo hi : ℤ) (ts : List TermText) →
     numbers_within s (load_form lo hi ts) ≡ ((bound_within lo && bound_within hi) && all term_within ts)
-unfolding numbers_within view_of bound_within all
+unfolding numbers_within group_within view_of of_kind same_kind kind_number bound_within all
 load_numbers s lo hi ts = simp and-true
 
 load_got :
@@ -52,8 +52,8 @@ load_shape :
     (s : Reached) (lo hi : ℤ) (ts : List TermText) {low high : ℤ} {count : ℕ} {below above fine rise : Bool} →
     low ≡ clamped lo → high ≡ clamped hi → below ≡ leb (nat_abs low) max_bound → above ≡ leb (nat_abs high) max_bound →
     count ≡ length ts → fine ≡ all term_within ts → rise ≡ true →
-    record { kind = Load; size = 0; parts = count; within = (below && above) && fine; rising = rise } ≡ shape_of s (load_form lo hi ts)
-unfolding shape_of parts_in view_of same_kind kind_number bound_within capped_rise rises_from
+    record { kind = Load; number = 0; parts = count; within = (below && above) && fine; rising = rise } ≡ shape_of s (load_form lo hi ts)
+unfolding shape_of parts_in number_in view_of rule_kind same_kind kind_number bound_within capped_rise rises_from
 load_shape s lo hi ts d e b a n t r =
     rw (b, a, d, e, n, t, r, load_numbers s lo hi ts, clamped_within lo max_bound (omega arith), clamped_within hi max_bound (omega arith), capped_small 0 (omega arith))
 
@@ -98,7 +98,7 @@ module _ {s : Reached} (text : List ℕ) (at : ℕ) {W : Form → Type 0} where
               answer ≡ Listed count fine rise end →
               ((lo hi : ℤ) (ts : List TermText) → low ≡ lo → high ≡ hi → count ≡ length ts → P ts → W (load_form lo hi ts)) →
               Forms s text (read_load (drop at text))
-              (Formed (record { kind = Load; size = 0; parts = count; within = (below && above) && fine; rising = rise }) end) W
+              (Formed (record { kind = Load; number = 0; parts = count; within = (below && above) && fine; rising = rise }) end) W
           unfolding bound_within
           load_formed b a e w =
               let g = gathered list e in

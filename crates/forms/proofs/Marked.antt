@@ -11,7 +11,7 @@ use Rattle.wellfounded.specs.Lists.{all, any}
 use Rattle.wellfounded.proofs.Tests.{first, second, either}
 use Rattle.wellfounded.proofs.Lists.{tabulate_replicate}
 use Rattle.format.specs.declared.kinds.Kind.{Kind}
-use Rattle.format.specs.declared.kinds.Kind.TheVariants.{Atoms, Rule, Clause, Load, Open, Claim, Defined}
+use Rattle.format.specs.declared.kinds.Kind.TheVariants.{Atoms, Rule, Clause, Load, Open, Claim, Defined, Also}
 use Rattle.format.specs.Forms.{Form}
 use Rattle.format.specs.Views.{view_of, kind_in, kind_number, same_kind, of_kind}
 use Rattle.format.proofs.ViewLaws.{of_kind_lem, lists_by_kind}
@@ -135,11 +135,11 @@ module _ (f : Form) (isAtoms : of_kind Atoms f ≡ true) (rest : List Form) (pla
 
 -- What follows the defined form of a book.
 module _ (fs : List Form) (q : InSequence fs) where
-  rest_plain : Plain (q.rules ++ (q.clauses ++ (q.loads ++ (q.state ∷ []))))
+  rest_plain : Plain (q.rules ++ (q.also ++ (q.clauses ++ (q.loads ++ (q.state ∷ [])))))
   unfolding same_kind kind_number
   rest_plain =
-      plain_all Rule refl refl q.rules q.are_rules (plain_all Clause refl refl q.clauses q.are_clauses
-      (plain_all Load refl refl q.loads q.are_loads (plain_state q.state q.tells_state)))
+      plain_all Rule refl refl q.rules q.are_rules (plain_all Also refl refl q.also q.are_also
+      (plain_all Clause refl refl q.clauses q.are_clauses (plain_all Load refl refl q.loads q.are_loads (plain_state q.state q.tells_state))))
 
   -- The marks of a book are 1 at the atoms that it declares defined.
   pub marks_decode : book_entries fs Marks ≡ ones_at (after_all start fs).size (declared_in fs)

@@ -10,13 +10,13 @@ use lib.ListN.{length, replicate}
 use lib.Seq.{sets}
 use Rattle.wellfounded.specs.Lists.{all}
 use Rattle.format.specs.Forms.{Form, open_form}
-use Rattle.format.specs.Views.{view_of, of_kind, same_kind, kind_number}
+use Rattle.format.specs.Views.{view_of, of_kind, rule_kind, same_kind, kind_number}
 use Rattle.format.specs.Parse.{Reading, got, and_then, read_number, parts, read_open}
 use Rattle.format.specs.declared.kinds.Kind.TheVariants.{Open}
 use Rattle.numerals.proofs.CappedLaws.{capped_small}
 use Rattle.judging.specs.declared.reached.Reached.{Reached}
-use Rattle.judging.specs.Judging.{atom_bound, bound_within, numbers_within}
-use Rattle.judging.specs.internal.Shapes.{parts_in, shape_of, capped_rise}
+use Rattle.judging.specs.Judging.{atom_bound, bound_within, group_within, numbers_within}
+use Rattle.judging.specs.internal.Shapes.{parts_in, number_in, shape_of, capped_rise}
 use Rattle.lists.specs.declared.Parts.{Parts}
 use Rattle.lists.specs.declared.Parts.TheVariants.{Listed, NoList}
 use Rattle.lists.specs.internal.Lists.{Lists, marked}
@@ -30,7 +30,7 @@ use Rattle.forms.proofs.NamedAtoms.{named_bound, named_laid}
 
 -- Its numbers within their limits.
 pub open_numbers : (s : Reached) (atoms : List ℕ) → numbers_within s (open_form atoms) ≡ all (λ atom. ltb atom (atom_bound s)) atoms
-unfolding numbers_within view_of bound_within all
+unfolding numbers_within group_within view_of of_kind same_kind kind_number bound_within all
 open_numbers s atoms = simp and-true
 
 open_got : (bs : List ℕ) {atoms rest : List ℕ} → parts read_number bs ≡ got atoms rest → read_open bs ≡ got (open_form atoms) rest
@@ -40,8 +40,8 @@ open_got bs e = rw e
 open_shape :
     (s : Reached) (atoms : List ℕ) {count : ℕ} {fine rise : Bool} → count ≡ length atoms →
     fine ≡ all (λ (atom : ℕ). ltb atom (atom_bound s)) atoms →
-    rise ≡ capped_rise atoms → record { kind = Open; size = 0; parts = count; within = fine; rising = rise } ≡ shape_of s (open_form atoms)
-unfolding shape_of parts_in view_of same_kind kind_number
+    rise ≡ capped_rise atoms → record { kind = Open; number = 0; parts = count; within = fine; rising = rise } ≡ shape_of s (open_form atoms)
+unfolding shape_of parts_in number_in view_of rule_kind same_kind kind_number
 open_shape s atoms n t r = rw (n, t, r, capped_small 0 (omega arith), open_numbers)
 
 open_laid :
@@ -66,7 +66,7 @@ module _ (s : Reached) (text : List ℕ) (before values : List ℕ) where
 
     pub open_some :
         {count : ℕ} {fine rise : Bool} {next : ℕ} → answer ≡ Listed count fine rise next →
-        Wanted (read_open bytes) (Formed (record { kind = Open; size = 0; parts = count; within = fine; rising = rise }) next)
+        Wanted (read_open bytes) (Formed (record { kind = Open; number = 0; parts = count; within = fine; rising = rise }) next)
     open_some e =
         let g = gathered list e in
         form_got s text (open_form g.xs) g.rest (open_got bytes g.reads) (open_shape s g.xs g.counted g.tested g.rises) g.ended

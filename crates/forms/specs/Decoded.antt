@@ -4,7 +4,7 @@ use Rattle.wellfounded.specs.Definitions.{Rule}
 use Rattle.tables.specs.Loads.{Term, Load}
 use Rattle.format.specs.declared.kinds.Kind.TheVariants as FormKind
 use Rattle.format.specs.Forms.{LiteralText, TermText, Form}
-use Rattle.format.specs.Views.{view_of, of_kind}
+use Rattle.format.specs.Views.{view_of, kind_in, rule_kind, of_kind}
 use Rattle.items.specs.Items.{literal_code}
 
 -- A body is the literals as they are stored; so is a clause.
@@ -15,9 +15,13 @@ codes_of ls = map literal_code ls
 unfoldable pub term_of : TermText → Term
 term_of t = record { minutes = t.minutes; literal = literal_code t.literal }
 
--- The rule that a form is, if it is one.
+-- The rule that a form is, if it is one, of whatever group.
 unfoldable pub rule_in : Form → List Rule
-rule_in f = cond (of_kind FormKind.Rule f) (record { head = (view_of f).head; body = codes_of (view_of f).literals } ∷ []) []
+rule_in f = cond (rule_kind (kind_in f)) (record { head = (view_of f).head; body = codes_of (view_of f).literals } ∷ []) []
+
+-- The group of that rule: the one that an also form names, and 0 for a rule form.
+unfoldable pub group_in : Form → List ℕ
+group_in f = cond (rule_kind (kind_in f)) ((view_of f).group ∷ []) []
 
 -- The clause that a form is, if it is one.
 unfoldable pub clause_in : Form → List (List ℕ)
@@ -32,6 +36,11 @@ load_in f =
 unfoldable pub rules_in : List Form → List Rule
 rules_in [] = []
 rules_in (f ∷ fs) = rule_in f ++ rules_in fs
+
+-- Their groups.
+unfoldable pub groups_in : List Form → List ℕ
+groups_in [] = []
+groups_in (f ∷ fs) = group_in f ++ groups_in fs
 
 -- The clauses of a book, in order.
 unfoldable pub clauses_in : List Form → List (List ℕ)

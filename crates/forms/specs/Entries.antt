@@ -1,9 +1,9 @@
 -- What forms add to each table. Rows are laid down consecutively, and so are literals and terms.
 use Rattle.std.specs.Prelude.{ℕ, Bool, true, false, cond, List, [], ◌∷◌, ◌++◌, map, eqb, ℤ, pos, length, replicate}
 use Rattle.wellfounded.specs.Lists.{any, tabulate}
-use Rattle.format.specs.declared.kinds.Kind.TheVariants.{Rule, Clause, Load, Open, Defined}
+use Rattle.format.specs.declared.kinds.Kind.TheVariants.{Clause, Load, Open, Defined}
 use Rattle.format.specs.Forms.{LiteralText, TermText, PairText, Form}
-use Rattle.format.specs.Views.{view_of, of_kind}
+use Rattle.format.specs.Views.{view_of, kind_in, rule_kind, of_kind}
 use Rattle.items.specs.Items.{literal_code, level_columns}
 use Rattle.judging.specs.declared.reached.Reached.{Reached}
 use Rattle.judging.specs.LentTables.{Table, Rules, Literals, Clauses, Loads, LoadLiterals, Minutes, Marks, Values, Levels}
@@ -17,9 +17,10 @@ literals_in f = (view_of f).literals
 unfoldable pub terms_in : Form → List TermText
 terms_in f = (view_of f).terms
 
--- The row that a form adds to a table, from where its literals or terms start: head, start, count; start, count; LO, HI, start, count.
+-- The row that a form adds to a table, from where its literals or terms start: head, start, count, group; start, count; LO, HI, start, count. A rule
+-- form's group is 0.
 unfoldable pub rule_row : Reached → Form → List ℕ
-rule_row s f = cond (of_kind Rule f) ((view_of f).head ∷ s.literals ∷ length (view_of f).literals ∷ []) []
+rule_row s f = cond (rule_kind (kind_in f)) ((view_of f).head ∷ s.literals ∷ length (view_of f).literals ∷ (view_of f).group ∷ []) []
 
 unfoldable pub clause_row : Reached → Form → List ℕ
 clause_row s f = cond (of_kind Clause f) (s.literals ∷ length (view_of f).literals ∷ []) []

@@ -2,9 +2,9 @@
 ghost use Rattle.std.specs.Prelude.{◌≡◌, true, ◌≤◌, map, leb, ltb, nat_abs, drop, replicate};
 ghost use Rattle.std.proofs.lemmas.List.Edits.{sets};
 ghost use Rattle.format.specs.Forms.{TermText};
-ghost use Rattle.format.specs.Parse.{read_number, parts, read_atoms, read_rule, read_clause, read_load, read_open, read_claim, read_defined};
+ghost use Rattle.format.specs.Parse.{read_number, parts, read_atoms, read_rule, read_clause, read_load, read_open, read_claim, read_defined, read_also};
 ghost use Rattle.items.specs.Items.{literal_code};
-ghost use Rattle.tables.specs.Limits.{max_bound, max_atoms};
+ghost use Rattle.tables.specs.Limits.{max_bound, max_atoms, max_group};
 ghost use Rattle.judging.specs.States.{counts_within};
 ghost use Rattle.judging.specs.Judging.{atom_bound, if_levelled};
 ghost use Rattle.judging.specs.internal.Shapes.{capped_rise};
@@ -20,7 +20,7 @@ use lists::{Parts, read_atoms, read_literals, read_pairs, read_terms};
 use numerals::numbers::{Number, read_number};
 use numerals::signed::{Signed, read_signed};
 use tables::load_rows::MAX_BOUND;
-use tables::sizes::MAX_ATOMS;
+use tables::sizes::{MAX_ATOMS, MAX_GROUP};
 
 // The shape of a line's form with the offset after it; or no form.
 #[derive(Drop)]
@@ -47,7 +47,7 @@ pub fn read_atoms_form(text: &[u8], at: usize, reached: Reached, marks: &mut [u8
     clear(marks, size);
     let shape = Shape {
         kind: Kind::Atoms,
-        size,
+        number: size,
         parts: 0,
         within: size <= MAX_ATOMS,
         rising: true,
@@ -55,7 +55,7 @@ pub fn read_atoms_form(text: &[u8], at: usize, reached: Reached, marks: &mut [u8
     Line::Formed(shape, next + 1)
 }
 
-// `H L ..)` of `(rule H L ..)`.
+// `H L ..)` of `(rule H L ..)`, a rule of group 0.
 pub fn read_rule_form(
     text: &[u8],
     at: usize,
@@ -80,12 +80,56 @@ pub fn read_rule_form(
     else {
         return Line::NoForm;
     };
-    store_rule(rules, reached.rules, head, start, parts);
+    store_rule(rules, reached.rules, head, start, parts, 0);
     let shape = Shape {
         kind: Kind::Rule,
-        size: 0,
+        number: 0,
         parts,
         within: (head < MAX_ATOMS) & within,
+        rising,
+    };
+    Line::Formed(shape, end)
+}
+
+// `G H L ..)` of `(also G H L ..)`: a group beside group 0, and a rule of it. Calling the function for rule forms here would keep it from being
+// compiled in place where nearly every line needs it.
+pub fn read_also_form(
+    text: &[u8],
+    at: usize,
+    reached: Reached,
+    rules: &mut [u16],
+    literals: &mut [u16],
+) -> Line
+    requires inside { Inside text.now at }
+    requires reached_value { counts_within reached ≡ true }
+    ensures { Forms reached text.now (read_also (drop at text.now)) result
+        (λ f. (rules.new ≡ sets rules.old reached.rules (rule_row reached f))
+        × (literals.new ≡ sets literals.old reached.literals (map literal_code (literals_in f)))) }
+{
+    if !byte_at(text, at, b' ') {
+        return Line::NoForm;
+    }
+    let Number::Read(group, after) = read_number(text, at + 1) else {
+        return Line::NoForm;
+    };
+    if !byte_at(text, after, b' ') {
+        return Line::NoForm;
+    }
+    let Number::Read(head, next) = read_number(text, after + 1) else {
+        return Line::NoForm;
+    };
+    let start = reached.literals;
+    let Parts::Listed(parts, within, rising, end) = read_literals(text, next, literals, start)
+    else {
+        return Line::NoForm;
+    };
+    store_rule(rules, reached.rules, head, start, parts, group);
+    let named = (1 <= group) & (group <= MAX_GROUP);
+    let shape = Shape {
+        kind: Kind::Also,
+        number: group,
+        parts,
+        within: named & ((head < MAX_ATOMS) & within),
         rising,
     };
     Line::Formed(shape, end)
@@ -112,7 +156,7 @@ pub fn read_clause_form(
     store_clause(clauses, reached.clauses, start, parts);
     let shape = Shape {
         kind: Kind::Clause,
-        size: 0,
+        number: 0,
         parts,
         within,
         rising,
@@ -170,7 +214,7 @@ pub fn read_load_form(
     let bounds = bound_within(low) & bound_within(high);
     let shape = Shape {
         kind: Kind::Load,
-        size: 0,
+        number: 0,
         parts,
         within: bounds & within,
         rising,
@@ -212,7 +256,7 @@ pub fn read_open_form(text: &[u8], at: usize, reached: Reached, values: &mut [u8
     };
     let shape = Shape {
         kind: Kind::Open,
-        size: 0,
+        number: 0,
         parts,
         within,
         rising,
@@ -235,7 +279,7 @@ pub fn read_defined_form(text: &[u8], at: usize, reached: Reached, marks: &mut [
     }
     let shape = Shape {
         kind: Kind::Defined,
-        size: 0,
+        number: 0,
         parts,
         within,
         rising,
@@ -252,7 +296,7 @@ pub fn read_claim_form(
     levels: &mut [u16],
 ) -> Line
     requires inside { Inside text.now at }
-    requires size_le_max_atoms { reached.size ≤ max_atoms }
+    requires size_le_max_atoms { (reached.size ≤ max_atoms) × (reached.group ≤ max_group) }
     ensures { Forms reached text.now (if_levelled reached (read_claim (drop at text.now))) result
         (λ f. (values.new ≡ sets values.old 0 (state_values reached f))
         × (levels.new ≡ sets levels.old 0 (state_levels reached f))) }
@@ -269,7 +313,7 @@ pub fn read_claim_form(
     }
     let shape = Shape {
         kind: Kind::Claim,
-        size: 0,
+        number: 0,
         parts,
         within: within & (parts <= MAX_ATOMS),
         rising: true,

@@ -4,3 +4,4 @@ pub mod IndexedMaker
 pub mod Making
 pub mod EveryModel
 pub mod Withdrawn
+pub mod TwoDefinitions

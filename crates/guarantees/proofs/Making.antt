@@ -24,12 +24,12 @@ use Rattle.tables.specs.declared.Fault.TheVariants.{Undecided}
 use Rattle.tables.specs.declared.Verdict.{Verdict}
 use Rattle.tables.specs.declared.Verdict.TheVariants.{Accepted, Refused}
 use Rattle.tables.specs.Faults.{Absent, first_fault, lowest, number_of, fault_number}
-use Rattle.tables.specs.Sound.{Tables, group_of, book_of, group_levels, Slice, claim_slices, slice_test, lent_tests, Sound}
+use Rattle.tables.specs.Sound.{Tables, group_of, book_of, group_levels, Slice, claim_slices, slice_test, lent_one_group_tests, OneGroup, Sound}
 use Rattle.satisfaction.specs.Satisfied.{clause_test, load_test, satisfaction_tests}
 use Rattle.tables.proofs.Faults.{lowest_at, lowest_found, first_passes, first_fails, absent_none, absent_more, accepted_absent, absent_accepted, refused_among, first_append, first_append_refused}
 use Rattle.tables.proofs.GroupLaws.{one_group, whole_part}
 use Rattle.tables.proofs.RowLaws.{group_size, book_size}
-use Rattle.tables.proofs.SoundTables.{slices_absent, sized_none, sized_more, lent_tables_lem, lent_marks, lent_none}
+use Rattle.tables.proofs.SoundTables.{slices_absent, sized_none, sized_more, lent_tables_lem, lent_marks, lent_none, lent_one_group}
 use Rattle.satisfaction.proofs.Satisfied.{absent_satisfies, satisfies_absent}
 use Rattle.checker.specs.Check.{check_of}
 use Rattle.checker.proofs.Theorems.{accepted_exactly}
@@ -72,11 +72,11 @@ undecided_at t values p = (
 -- ── What the maker is lent ──
 
 pub lent_passes :
-    (t : Tables) (o v l w : List ℕ) → LentSetting (book_of t) o → Sound t (maker_slices t o v l w) →
+    (t : Tables) (o v l w : List ℕ) → LentSetting (book_of t) o → Sound t (maker_slices t o v l w) → OneGroup t →
     first_fault (stop_tests t o v l w) ≡ Accepted
 unfolding stop_tests refusal_tests
-lent_passes t o v l w lent sound =
-    first_append (lent_tests t (maker_slices t o v l w)) _ (absent_accepted _ sound.none)
+lent_passes t o v l w lent sound one =
+    first_append (lent_one_group_tests t (maker_slices t o v l w)) _ (absent_accepted _ (lent_one_group t (maker_slices t o v l w) sound.none one))
     ∙ absent_accepted _ (absent_more (setting_absent (book_of t) o lent.setting lent.zeros) absent_none)
 
 -- ── What the maker leaves ──
@@ -140,7 +140,7 @@ two_valued_lem t group two =
 
 module _ (t : Tables) (o : List ℕ) where
   pub accepted_good : first_fault (model_tests t (well_founded_model (book_of t) o)) ≡ Accepted → Good t o
-  unfolding model_tests undecided_test not_held
+  unfolding model_tests undecided_test not_held book_of
   accepted_good e =
       let none = accepted_absent (model_tests t (well_founded_model (book_of t) o)) e in
       record {
@@ -152,20 +152,20 @@ module _ (t : Tables) (o : List ℕ) where
       }
 
   pub good_accepted : Good t o → first_fault (model_tests t (well_founded_model (book_of t) o)) ≡ Accepted
-  unfolding model_tests undecided_test not_held
+  unfolding model_tests undecided_test not_held book_of
   good_accepted good =
       absent_accepted _
       (absent_more (record { nowhere = λ a l. ap not (good.two_valued.held a (rw book_size l)) }) (satisfies_absent t _ good.satisfied))
 
   -- The check accepts a good model with its stages, which are the levels of the only group.
   pub good_checked :
-      Good t o → {others : List Slice} → Sound t others →
+      Good t o → {others : List Slice} → Sound t others → OneGroup t →
       number_of (check_of t (well_founded_model (book_of t) o) (stages_of (book_of t) o)) ≡ 0
   unfolding book_of
-  good_checked good {others} sound =
+  good_checked good {others} sound one =
       (accepted_exactly t (well_founded_model (book_of t) o) (stages_of (book_of t) o)
       (record { none = lent_none t _ (lent_tables_lem t others sound.none) slices (lent_marks t others sound.none) })).1
-      (record { two_valued = λ group. two_valued_lem t group good.two_valued; obeys = λ group l. obeys group (omega (arith, one_group t.rules)); satisfies = good.satisfied })
+      (record { two_valued = λ group. two_valued_lem t group good.two_valued; obeys = λ group l. obeys group (omega (arith, one_group t one)); satisfies = good.satisfied })
     where
       long : length (stages_of (book_of t) o) ≡ t.atoms
       long = stages_length (book_of t) o ∙ book_size t
@@ -174,7 +174,7 @@ module _ (t : Tables) (o : List ℕ) where
       slices =
           slices_absent _
           (sized_more (model_length (book_of t) o ∙ book_size t)
-          (sized_more (long ∙ rw one_group (omega arith)) sized_none))
+          (sized_more (long ∙ rw (one_group t one) (omega arith)) sized_none))
 
       obeys : (group : ℕ) → group ≡ 0 → Obeys (group_of t group) (well_founded_model (book_of t) o) (group_levels t.atoms (stages_of (book_of t) o) group)
       obeys group e = rw (e, whole_part t.atoms (stages_of (book_of t) o) long) (complete (book_of t) o good.two_valued)

@@ -18,7 +18,7 @@ use Rattle.tables.specs.declared.Verdict.{Verdict}
 use Rattle.tables.specs.declared.Verdict.TheVariants.{Accepted, Refused}
 use Rattle.tables.specs.Faults.{Absent, first_fault, number_of, position_of, fault_number, RefusedBy}
 use Rattle.tables.specs.Rows.{group_count, heads_rule, is_declared}
-use Rattle.tables.specs.Sound.{Tables, group_of, book_of, group_levels, Sound}
+use Rattle.tables.specs.Sound.{Tables, group_of, book_of, group_levels, OneGroup, Sound}
 use Rattle.tables.proofs.Faults.{refused_by, by_refused}
 use Rattle.tables.proofs.GroupLaws.{some_group}
 use Rattle.tables.proofs.Numbers.{zero_accepted, number_refused}
@@ -89,8 +89,7 @@ pub others_refused :
     number_of (check_of t values levels) ≡ 0 → ⊥
 unfolding book_of
 others_refused t o values levels bad has =
-    group_refused t 0 o values levels (some_group t.rules)
-    (λ good. bad (record { two_valued = good.two_valued; satisfied = good.satisfied })) has
+    group_refused t 0 o values levels (some_group t.rules) bad has
 
 -- ── Withdrawn rules ──
 
@@ -112,11 +111,11 @@ module _ (t : Tables) (atom : ℕ) (below : atom < t.atoms) (declared : is_decla
   pub withdrawn_unset : (o : List ℕ) → Absent (setting_test (book_of t) o) → value_at o atom ≡ 0
   withdrawn_unset o passed = absent_zeros (book_of t) o passed atom (declared_defined t atom below declared)
 
--- ── The maker on sound tables, lent a setting o, whatever values v, levels l and work w hold on entry ──
+-- ── The maker on sound tables of group 0, lent a setting o, whatever values v, levels l and work w hold on entry ──
 
-module _ (t : Tables) (o v l w : List ℕ) (sound : Sound t (maker_slices t o v l w)) (lent : LentSetting (book_of t) o) where
+module _ (t : Tables) (o v l w : List ℕ) (sound : Sound t (maker_slices t o v l w)) (one : OneGroup t) (lent : LentSetting (book_of t) o) where
   is_evaluated : evaluate_of t o v l w ≡ evaluated t o
-  is_evaluated = passed_made t o v l w (lent_passes t o v l w lent sound)
+  is_evaluated = passed_made t o v l w (lent_passes t o v l w lent sound one)
 
   -- Demand 2: it writes the well-founded model with its stages, sets work to 0, and answers the closure number,
   pub made : Made t o (evaluate_of t o v l w)
@@ -162,7 +161,7 @@ module _ (t : Tables) (o v l w : List ℕ) (sound : Sound t (maker_slices t o v 
   made_claim_exactly =
       rw is_evaluated (
         λ zero. let right = Theorems.accepted_right t _ _ zero in record { two_valued = right.two_valued 0; satisfied = right.satisfies },
-        λ good. good_checked t o good sound,
+        λ good. good_checked t o good sound one,
       )
 
 -- ── Demand 2, of the maker on any content ──
@@ -186,7 +185,7 @@ module _ (t : Tables) (o v l w : List ℕ) where
     λ r. let e = verdict_is_lem t o v l w ∙ by_refused _ fault position r in (ap number_of e, ap position_of e),
   )
 
-  -- A fault of 11 to 17, 31 or 21 is answered, nothing is written and rounds is 0,
+  -- A fault of 11 to 17, 34, 35, 31 or 21 is answered, nothing is written and rounds is 0,
   pub stopped :
       (fault : Fault) (position : ℕ) → first_fault (stop_tests t o v l w) ≡ Refused fault position →
       ((evaluate_of t o v l w).verdict ≡ Refused fault position) × Unwritten v l w (evaluate_of t o v l w)
@@ -227,6 +226,6 @@ made_and_checked t o v l w made rounds checked values levels work answers check 
     record {
       evaluation = answers;
       check = check;
-      makes_exactly = λ sound lent. rw answers.verdict_is (maker_exactly t o v l w sound lent);
-      accepts_exactly = λ sound lent. rw (check, answers.values_is, answers.levels_is) (made_claim_exactly t o v l w sound lent);
+      makes_exactly = λ sound one lent. rw answers.verdict_is (maker_exactly t o v l w sound one lent);
+      accepts_exactly = λ sound one lent. rw (check, answers.values_is, answers.levels_is) (made_claim_exactly t o v l w sound one lent);
     }

@@ -6,7 +6,7 @@ use Rattle.wellfounded.specs.Stages.{stage, closure, well_founded_model, stage_o
 use Rattle.tables.specs.declared.Verdict.{Verdict}
 use Rattle.tables.specs.Faults.{Test, number_of}
 use Rattle.tables.specs.Rows.{group_count}
-use Rattle.tables.specs.Sound.{Tables, group_of, book_of, Slice, Sound}
+use Rattle.tables.specs.Sound.{Tables, group_of, book_of, OneGroup, Slice, Sound}
 use Rattle.satisfaction.specs.Satisfied.{Satisfies}
 use Rattle.evaluator.specs.Evaluate.{evaluation_slices, refusal_tests, Evaluation, evaluate_of, Answers}
 use Rattle.checker.specs.Check.{check_of}
@@ -20,7 +20,7 @@ pub record LentSetting (d : Definition) (o : List ℕ) : Type 0 where
 abbrev pub maker_slices : Tables → List ℕ → List ℕ → List ℕ → List ℕ → List Slice
 maker_slices t o v l w = evaluation_slices t.atoms (length o) (length v) (length l) (length w)
 
--- The faults 11 to 17, 31 and 21, which stop the maker, of the tables, the open values o, and values v, levels l and work w.
+-- The faults 11 to 16, 34, 35, 17, 31 and 21, which stop the maker, of the tables, the open values o, and values v, levels l and work w.
 unfoldable pub stop_tests : Tables → List ℕ → List ℕ → List ℕ → List ℕ → List Test
 stop_tests t o v l w = refusal_tests t o (maker_slices t o v l w)
 
@@ -36,9 +36,8 @@ pub record GoodIn (t : Tables) (group : ℕ) (o : List ℕ) : Type 0 where
   pub satisfied : Satisfies t (well_founded_model (group_of t group) o)
 
 -- The same of group 0, which is the whole definition of a book that has no other group.
-pub record Good (t : Tables) (o : List ℕ) : Type 0 where
-  pub two_valued : TwoValued (book_of t) (well_founded_model (book_of t) o)
-  pub satisfied : Satisfies t (well_founded_model (book_of t) o)
+abbrev pub Good : Tables → List ℕ → Type 0
+Good t o = GoodIn t 0 o
 
 -- Values are every group's well-founded model for the group's open atoms, which is two-valued, and satisfy all clauses and load
 -- lines. (All groups have the book's atoms, so that being two-valued is the same for each.)
@@ -62,10 +61,10 @@ pub record Unwritten (v l w : List ℕ) (e : Evaluation) : Type 0 where
   pub rounds : e.rounds ≡ 0
 
 -- The two calls in turn: the maker answers and leaves the slices as `evaluate_of` says, the check answers as `check_of` says of
--- what it finds there, and on sound tables with a setting each accepts exactly if the model is good.
+-- what it finds there, and on sound tables of group 0 with a setting each accepts exactly if the model is good.
 pub record MadeAndChecked
     (t : Tables) (o v l w : List ℕ) (made : Verdict) (rounds : ℕ) (checked : Verdict) (values levels work : List ℕ) : Type 0 where
   pub evaluation : Answers (evaluate_of t o v l w) made rounds values levels work
   pub check : checked ≡ check_of t values levels
-  pub makes_exactly : Sound t (maker_slices t o v l w) → LentSetting (book_of t) o → (number_of made ≡ 0) ↔ Good t o
-  pub accepts_exactly : Sound t (maker_slices t o v l w) → LentSetting (book_of t) o → (number_of checked ≡ 0) ↔ Good t o
+  pub makes_exactly : Sound t (maker_slices t o v l w) → OneGroup t → LentSetting (book_of t) o → (number_of made ≡ 0) ↔ Good t o
+  pub accepts_exactly : Sound t (maker_slices t o v l w) → OneGroup t → LentSetting (book_of t) o → (number_of checked ≡ 0) ↔ Good t o

@@ -15,7 +15,7 @@ pub struct Checked {
 }
 
 // Evaluates the book at the open values, and checks the values and levels that it then finds in the slices. On sound tables
-// and a setting, the claim is accepted exactly if the model is two-valued and satisfies all clauses and load lines.
+// of group 0 and a setting, the claim is accepted exactly if the model is two-valued and satisfies all clauses and load lines.
 pub fn evaluate_and_check(
     atoms: usize,
     rules: &[u16],

@@ -4,15 +4,18 @@
 use Prim.Native.Nat.{ℕ}
 use mathlib.Core.Path.{◌≡◌, refl}
 use mathlib.Core.List.{List, [], ◌∷◌}
-use Rattle.tables.specs.declared.Fault.TheVariants.{SliceLength, Mark, IndexSize, Value, Undecided}
+use Rattle.tables.specs.declared.Fault.TheVariants.{Group, OtherGroup, SliceLength, Mark, IndexSize, Value, Undecided}
 use Rattle.tables.specs.declared.Verdict.TheVariants.{Refused}
 use Rattle.tables.specs.Sound.{Tables, lent}
 use Rattle.indexed.specs.EvaluateIndexed.{IndexedSlices, indexed_stop, evaluate_indexed_of, model_counts}
 use Rattle.indexed.proofs.Computes.{computes}
 
--- (rule 1 0 0), (rule 2 (not 3)), (rule 3 (not 2)): atom 0 is open; with these marks.
+-- (rule 1 0 0), (rule 2 (not 3)), and (rule 3 (not 2)) in a group: atom 0 is open; with these marks.
+abbrev in_groups : ℕ → List ℕ → Tables
+in_groups group marks = lent 4 (1 ∷ 0 ∷ 2 ∷ 0 ∷ 2 ∷ 2 ∷ 1 ∷ 0 ∷ 3 ∷ 3 ∷ 1 ∷ group ∷ []) (0 ∷ 0 ∷ 7 ∷ 5 ∷ []) [] [] [] [] marks
+
 unfoldable pub book : List ℕ → Tables
-book marks = lent 4 (1 ∷ 0 ∷ 2 ∷ 2 ∷ 2 ∷ 1 ∷ 3 ∷ 3 ∷ 1 ∷ []) (0 ∷ 0 ∷ 7 ∷ 5 ∷ []) [] [] [] [] marks
+book marks = in_groups 0 marks
 
 unfoldable pub unmarked : List ℕ
 unmarked = 0 ∷ 0 ∷ 0 ∷ 0 ∷ []
@@ -75,3 +78,13 @@ pub counts_before_mark :
     ≡ record { verdict = Refused SliceLength 0; rounds = 0; values = 9 ∷ 9 ∷ 9 ∷ 9 ∷ []; levels = 9 ∷ 9 ∷ 9 ∷ 9 ∷ []; work = 9 ∷ 9 ∷ 9 ∷ 9 ∷ [] }
 unfolding computes book slices eight
 counts_before_mark = refl
+
+-- A rule of another group comes before them all,
+pub other_group_first : indexed_stop (in_groups 1 (2 ∷ [])) (slices 2 eight []) ≡ Refused OtherGroup 2
+unfolding computes slices eight
+other_group_first = refl
+
+-- and a group that no book has before that.
+pub group_first : indexed_stop (in_groups 8 (2 ∷ [])) (slices 2 eight []) ≡ Refused Group 2
+unfolding computes slices eight
+group_first = refl

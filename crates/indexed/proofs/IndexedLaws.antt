@@ -2,33 +2,29 @@
 -- Assumes nothing.
 use Prim.Native.Nat.{ℕ, ◌*◌, ◌≤◌, ◌<◌}
 use mathlib.Core.Path.{◌≡◌, refl, sym, ap, ◌∙◌}
-use mathlib.Core.Bool.{Bool, true, false, not}
 use mathlib.Core.List.Memᴰ
 use mathlib.Core.List.{List, [], ◌∷◌, ◌++◌, Memᴰ}
 use native.Mathlib.Omega.{arith}
 use lib.ListN.{length}
-use borrow.Author.Tests.{eqb-true, not-false}
-use Rattle.wellfounded.specs.Lists.{all}
 use Rattle.wellfounded.specs.Definitions.{Definition, is_defined}
-use Rattle.wellfounded.proofs.Lists.{all_use}
 use Rattle.wellfounded.proofs.Closure.{model_length}
 use Rattle.tables.specs.declared.Found.{Found}
 use Rattle.tables.specs.declared.Found.TheVariants.{At, Nothing}
 use Rattle.tables.specs.declared.Fault.{Fault}
-use Rattle.tables.specs.declared.Fault.TheVariants.{Value, SliceLength}
+use Rattle.tables.specs.declared.Fault.TheVariants.{Value}
 use Rattle.tables.specs.declared.Verdict.{Verdict}
 use Rattle.tables.specs.declared.Verdict.TheVariants.{Accepted, Refused}
 use Rattle.tables.specs.Limits.{max_atoms}
 use Rattle.tables.specs.Faults.{lowest, Test, Absent, first_fault}
-use Rattle.tables.specs.Rows.{rule_count, rule_head, definition_of}
-use Rattle.tables.specs.Sound.{Tables, group_of, book_of, table_tests, Slice, is_sized, slice_test, mark_count_test, mark_test, lent_tests}
+use Rattle.tables.specs.Rows.{rule_count, rule_head, rule_group, definition_of}
+use Rattle.tables.specs.Sound.{Tables, group_of, book_of, table_tests, Slice, mark_count_test, mark_test, one_group_tests, OneGroup, lent_tests, lent_one_group_tests}
 use Rattle.tables.specs.internal.Definitions.{HasRows}
 use Rattle.tables.specs.internal.Marks.{is_marked, TellsDefined}
 use Rattle.tables.specs.internal.Scans.{ClausesScannable, LoadsScannable}
-use Rattle.tables.proofs.Faults.{first_fails, once_fails, verdict_refuses, verdict_leaves, first_append, first_append_refused, lowest_same, refused_accepted}
+use Rattle.tables.proofs.Faults.{verdict_refuses, verdict_leaves, first_append, first_append_refused, lowest_same, refused_accepted}
 use Rattle.tables.proofs.Faults.{found_refuses, nothing_leaves, nothing_absent, accepted_absent}
 use Rattle.tables.proofs.RowLaws.{defined_tell, definition_rows, book_size}
-use Rattle.tables.proofs.SoundTables.{slice_leaves, lent_order, lent_tables_lem, lent_marks, sound_sizes, sound_rules, sound_clauses, sound_loads}
+use Rattle.tables.proofs.SoundTables.{slices_order, one_group_lent, lent_tables_lem, lent_marks, sound_sizes, sound_rules, sound_clauses, sound_loads}
 use Rattle.satisfaction.specs.Satisfied.{clause_test, load_test, satisfaction_tests}
 use Rattle.sorting.specs.Sorted.{starts_of, rows_by_key}
 use Rattle.rounds.specs.internal.Starting.{bad_start}
@@ -51,33 +47,21 @@ module _ (t : Tables) (setting values levels work starts entries counts : ℕ) w
   abbrev pub early : List Test
   early = early_tests t setting values levels work starts entries counts
 
-  order : first_fault early ≡ first_fault (table_tests t ++ (slice_test lengths ∷ mark_count_test t ∷ mark_test t ∷ index_test t starts entries ∷ []))
+  order : first_fault early ≡ first_fault (one_group_tests t lengths ++ (mark_count_test t ∷ mark_test t ∷ index_test t starts entries ∷ []))
   unfolding early_tests
-  order = ap first_fault (lent_order t lengths (index_test t starts entries ∷ []))
+  order = ap first_fault (slices_order t lengths (index_test t starts entries ∷ []))
 
-  -- A fault of the tables is the verdict,
+  -- A fault of the tables, a rule of another group or a slice of another length is the verdict,
   pub tables_refuse :
-      (verdict : Verdict) (fault : Fault) (position : ℕ) → verdict ≡ first_fault (table_tests t) → verdict ≡ Refused fault position →
+      (verdict : Verdict) (fault : Fault) (position : ℕ) → verdict ≡ first_fault (one_group_tests t lengths) → verdict ≡ Refused fault position →
       verdict ≡ first_fault early
-  tables_refuse verdict fault position is refused = verdict_refuses early (table_tests t) _ verdict fault position order is refused
+  tables_refuse verdict fault position is refused = verdict_refuses early (one_group_tests t lengths) _ verdict fault position order is refused
 
-  module _ (verdict : Verdict) (is : verdict ≡ first_fault (table_tests t)) (accepted : verdict ≡ Accepted) (fit : Bool)
-      (fits : fit ≡ all is_sized lengths) where
-    tables_leave : first_fault early ≡ first_fault (slice_test lengths ∷ mark_count_test t ∷ mark_test t ∷ index_test t starts entries ∷ [])
-    tables_leave = verdict_leaves early (table_tests t) _ verdict order is accepted
-
-    -- then a slice of another length,
-    pub slices_refuse : not fit ≡ true → Refused SliceLength 0 ≡ first_fault early
-    unfolding slice_test
-    slices_refuse wrong = sym (tables_leave ∙ first_fails _ _ 0 (once_fails _ (ap not (sym fits) ∙ wrong)))
-
-    -- and else it is left to the marks and the index.
-    pub slices_leave : not fit ≡ false → first_fault early ≡ first_fault (mark_count_test t ∷ mark_test t ∷ index_test t starts entries ∷ [])
-    unfolding is_sized
-    slices_leave right = tables_leave ∙ slice_leaves lengths _ long
-      where
-        long : (x : Slice) → Memᴰ x lengths → x.entries ≡ x.due
-        long x m = eqb-true _ _ (all_use is_sized lengths (sym fits ∙ not-false _ right) m)
+  -- and else it is left to the marks and the index.
+  pub tables_leave :
+      (verdict : Verdict) → verdict ≡ first_fault (one_group_tests t lengths) → verdict ≡ Accepted →
+      first_fault early ≡ first_fault (mark_count_test t ∷ mark_test t ∷ index_test t starts entries ∷ [])
+  tables_leave verdict is accepted = verdict_leaves early (one_group_tests t lengths) _ verdict order is accepted
 
 -- ── Following the rules ──
 
@@ -86,7 +70,9 @@ pub ruled_size : (rules literals marks setting : List ℕ) → (ruled rules lite
 unfolding ruled definition_of
 ruled_size rules literals marks setting = refl
 
-ruled_rows : (rules literals marks setting : List ℕ) → HasRows (ruled rules literals marks setting) rules literals
+ruled_rows :
+    (rules literals marks setting : List ℕ) → ((row : ℕ) → row < rule_count rules → rule_group rules row ≡ 0) →
+    HasRows (ruled rules literals marks setting) rules literals
 unfolding ruled
 ruled_rows rules literals marks setting = definition_rows (length setting) rules literals marks
 
@@ -154,7 +140,7 @@ module _ {rules literals marks setting values levels work starts entries counts 
                 lends = record {
                   few = rw ruled_size can.few;
                   long = sym (ruled_size rules literals marks setting);
-                  has_rows = ruled_rows rules literals marks setting;
+                  has_rows = ruled_rows rules literals marks setting can.zero;
                   rows = rw ruled_size can.rows;
                   room = marked.long;
                   tells = λ atom l. tells atom (rw ruled_size at l);
@@ -194,7 +180,7 @@ module _ (t : Tables) (s : IndexedSlices) where
 
   -- What stops it is found before the setting or in the setting.
   tests_split : indexed_tests t s ≡ early_of ++ (setting_test (book_of t) s.setting ∷ [])
-  unfolding indexed_tests early_tests sized_slices lent_tests table_tests
+  unfolding indexed_tests early_tests sized_slices lent_one_group_tests one_group_tests table_tests
   tests_split = refl
 
   -- What is refused leaves all slices as they were.
@@ -221,16 +207,19 @@ module _ (t : Tables) (s : IndexedSlices) where
     none : (test : Test) → Memᴰ test early_of → Absent test
     none = accepted_absent early_of (sym is ∙ accepted)
 
-    none_lent : (test : Test) → Memᴰ test (lent_tests t (sized_slices t s)) → Absent test
+    none_one : ((test : Test) → Memᴰ test (lent_tests t (sized_slices t s)) → Absent test) × OneGroup t
     unfolding early_tests sized_slices
-    none_lent test m = none test (Memᴰ.append_left _ m)
+    none_one = one_group_lent t (sized_slices t s) (λ test m. none test (Memᴰ.append_left _ m))
+
+    none_lent : (test : Test) → Memᴰ test (lent_tests t (sized_slices t s)) → Absent test
+    none_lent = none_one.0
 
     none_tables : (test : Test) → Memᴰ test (table_tests t) → Absent test
     none_tables = lent_tables_lem t (sized_slices t s) none_lent
 
     none_index : IndexFits t (length s.starts) (length s.entries)
     unfolding early_tests
-    none_index = (index_fits_lem t _ _).0 (none _ (Memᴰ.append_right (lent_tests t _) (Memᴰ.head refl)))
+    none_index = (index_fits_lem t _ _).0 (none _ (Memᴰ.append_right (lent_one_group_tests t _) (Memᴰ.head refl)))
 
     long : length s.setting ≡ t.atoms
     long = setting_long_lem t s none_lent
@@ -245,6 +234,7 @@ module _ (t : Tables) (s : IndexedSlices) where
           few = rw long sizes.few_atoms;
           few_rows = omega (arith, sizes.few_rules);
           rows = rw long (sound_rules t none_tables);
+          zero = none_one.1.zero;
           marks_long = (lent_marks t (sized_slices t s) none_lent).many ∙ sym long;
           values_long = values_long_lem t s none_lent ∙ sym long;
           levels_long = levels_long_lem t s none_lent ∙ sym long;

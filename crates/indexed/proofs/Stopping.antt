@@ -18,10 +18,10 @@ use Rattle.tables.specs.declared.Verdict.TheVariants.{Accepted, Refused}
 use Rattle.tables.specs.Limits.{max_position}
 use Rattle.tables.specs.Faults.{Test, Absent, first_fault, position_of}
 use Rattle.tables.specs.Rows.{rule_count}
-use Rattle.tables.specs.Sound.{Tables, book_of, Slice, is_sized, table_tests, slice_test, mark_count_test, mark_test, lent_tests, Sound}
+use Rattle.tables.specs.Sound.{Tables, book_of, Slice, is_sized, table_tests, other_group_test, one_group_tests, slice_test, mark_count_test, mark_test, lent_tests, lent_one_group_tests, Sound}
 use Rattle.tables.proofs.Faults.{absent_dropped, accepted_absent, refused_among, first_append, first_append_refused}
-use Rattle.tables.proofs.SoundTables.{slices_fit, lent_slices_lem}
-use Rattle.tables.proofs.Positions.{position_more, position_none, few_in_book, lent_position}
+use Rattle.tables.proofs.SoundTables.{slices_fit, lent_slices_lem, one_group_lent}
+use Rattle.tables.proofs.Positions.{position_more, position_none, few_in_book, one_group_position}
 use Rattle.evaluator.specs.Evaluate.{setting_test, evaluation_slices, refusal_tests, model_tests, model_fault, is_made, Evaluation, evaluated, stopped_or, evaluate_of}
 use Rattle.evaluator.proofs.MadeLaws.{model_made}
 use Rattle.indexing.specs.Index.{index_test, IndexFits}
@@ -43,11 +43,21 @@ module _ (t : Tables) (s : IndexedSlices) where
   unfolding sized_slices all is_sized
   counts_sized many = rw (eq-eqb _ _ many)
 
-  lent_same : length s.counts ≡ rule_count t.rules → lent_tests t (sized_slices t s) ≡ lent_tests t plain_slices
-  unfolding lent_tests slice_test
-  lent_same many =
-      ap (λ (b : Bool). table_tests t ++ (record { fault = SliceLength; positions = 1; bad = λ k. not b } ∷ mark_count_test t ∷ mark_test t ∷ []))
-      (counts_sized many)
+  slices_same : length s.counts ≡ rule_count t.rules → slice_test (sized_slices t s) ≡ slice_test plain_slices
+  unfolding slice_test
+  slices_same many = ap sized_as (counts_sized many)
+    where
+      sized_as : Bool → Test
+      sized_as b = record { fault = SliceLength; positions = 1; bad = λ k. not b }
+
+  -- and so for the same faults, in a call for books of group 0 and in any.
+  lent_same : length s.counts ≡ rule_count t.rules → lent_one_group_tests t (sized_slices t s) ≡ lent_one_group_tests t plain_slices
+  unfolding lent_one_group_tests one_group_tests
+  lent_same many = ap (λ (x : Test). (table_tests t ++ (other_group_test t ∷ x ∷ [])) ++ (mark_count_test t ∷ mark_test t ∷ [])) (slices_same many)
+
+  sound_same : length s.counts ≡ rule_count t.rules → lent_tests t (sized_slices t s) ≡ lent_tests t plain_slices
+  unfolding lent_tests
+  sound_same many = ap (λ (x : Test). table_tests t ++ (x ∷ mark_count_test t ∷ mark_test t ∷ [])) (slices_same many)
 
   -- and with an index of its lengths they are refused alike.
   pub refused_alike :
@@ -56,7 +66,7 @@ module _ (t : Tables) (s : IndexedSlices) where
   unfolding indexed_stop indexed_tests refusal_tests
   refused_alike fits many =
       ap (λ (ts : List Test). first_fault (ts ++ (index_test t (length s.starts) (length s.entries) ∷ setting_test (book_of t) s.setting ∷ []))) (lent_same many)
-      ∙ absent_dropped (lent_tests t plain_slices) _ (index_test t (length s.starts) (length s.entries)) ((index_fits_lem t _ _).1 fits)
+      ∙ absent_dropped (lent_one_group_tests t plain_slices) _ (index_test t (length s.starts) (length s.entries)) ((index_fits_lem t _ _).1 fits)
 
   -- Who is stopped alike does nothing else.
   stopped_twice :
@@ -101,7 +111,7 @@ module _ (t : Tables) (s : IndexedSlices) where
 
     -- What is sound for it is sound for the plain maker.
     pub plain_sound : Sound t plain_slices
-    plain_sound = record { none = λ test m. none test (subst (Memᴰ test) (sym (lent_same counts_long_lem)) m) }
+    plain_sound = record { none = λ test m. none test (subst (Memᴰ test) (sym (sound_same counts_long_lem)) m) }
 
   -- ── What nothing stops ──
 
@@ -113,11 +123,11 @@ module _ (t : Tables) (s : IndexedSlices) where
 
     pub none_lent : (test : Test) → Memᴰ test (lent_tests t (sized_slices t s)) → Absent test
     unfolding indexed_tests
-    none_lent test m = none_stops test (Memᴰ.append_left _ m)
+    none_lent = (one_group_lent t (sized_slices t s) (λ test m. none_stops test (Memᴰ.append_left _ m))).0
 
     pub none_index : IndexFits t (length s.starts) (length s.entries)
     unfolding indexed_tests
-    none_index = (index_fits_lem t _ _).0 (none_stops _ (Memᴰ.append_right (lent_tests t (sized_slices t s)) (Memᴰ.head refl)))
+    none_index = (index_fits_lem t _ _).0 (none_stops _ (Memᴰ.append_right (lent_one_group_tests t (sized_slices t s)) (Memᴰ.head refl)))
 
     pub accepted_evaluated : evaluate_indexed_of t s ≡ evaluated t s.setting
     unfolding evaluate_of stopped_or
@@ -149,7 +159,7 @@ module _ (t : Tables) (s : IndexedSlices) where
 
   -- An evaluation that is stopped is not made,
   stopped_unmade : (fault : Fault) (position : ℕ) → indexed_stop t s ≡ Refused fault position → model_fault fault ≡ false
-  unfolding indexed_stop indexed_tests lent_tests table_tests slice_test mark_count_test mark_test index_test setting_test all any model_fault
+  unfolding indexed_stop indexed_tests lent_one_group_tests one_group_tests table_tests other_group_test slice_test mark_count_test mark_test index_test setting_test all any model_fault
   stopped_unmade fault position e =
       not-true _ (refused_among (λ f. not (model_fault f)) (indexed_tests t s) refl fault position e)
 
@@ -177,4 +187,4 @@ module _ (t : Tables) (s : IndexedSlices) where
   pub stop_position : position_of (indexed_stop t s) ≤ max_position
   unfolding indexed_stop indexed_tests index_test setting_test
   stop_position =
-      lent_position t (sized_slices t s) _ (λ z. position_more _ _ (omega arith) (λ a. position_more _ _ (few_in_book t z) (λ b. position_none)))
+      one_group_position t (sized_slices t s) _ (λ z. position_more _ _ (omega arith) (λ a. position_more _ _ (few_in_book t z) (λ b. position_none)))

@@ -22,7 +22,7 @@ use Rattle.tables.specs.declared.Verdict.TheVariants.{Accepted, Refused}
 use Rattle.tables.specs.Limits.{max_atoms, max_position}
 use Rattle.tables.specs.Faults.{RefusedBy, number_of, position_of, fault_number}
 use Rattle.tables.specs.Rows.{rule_count, rule_start, rule_size, rule_body}
-use Rattle.tables.specs.Sound.{Tables, book_of, Slice, Sound, table_tests, slice_test, mark_count_test, mark_test, lent_tests}
+use Rattle.tables.specs.Sound.{Tables, book_of, Slice, Sound, table_tests, other_group_test, one_group_tests, slice_test, mark_count_test, mark_test, lent_one_group_tests}
 use Rattle.tables.proofs.Faults.{refused_by, by_refused, refused_among}
 use Rattle.tables.proofs.Numbers.{number_refused}
 use Rattle.tables.proofs.SoundTables.{sound_rules, lent_tables_lem}
@@ -95,13 +95,13 @@ module _ (t : Tables) (s : IndexedSlices) where
     λ r. let e = verdict_is_lem t s ∙ by_refused _ fault position r in (ap number_of e, ap position_of e),
   )
 
-  -- A refusal has a number of 11 to 17, 31, 33, 21, or 25 to 27.
+  -- A refusal has a number of 11 to 17, 34, 35, 31, 33, 21, or 25 to 27.
   pub indexed_faults :
       (fault : Fault) (position : ℕ) → (evaluate_indexed_of t s).verdict ≡ Refused fault position →
-      any (eqb (fault_number fault)) (11 ∷ 12 ∷ 13 ∷ 14 ∷ 15 ∷ 16 ∷ 17 ∷ 31 ∷ 33 ∷ 21 ∷ 25 ∷ 26 ∷ 27 ∷ []) ≡ true
-  unfolding indexed_tests lent_tests table_tests slice_test mark_count_test mark_test index_test setting_test model_tests undecided_test satisfaction_tests clause_test load_test all any
+      any (eqb (fault_number fault)) (11 ∷ 12 ∷ 13 ∷ 14 ∷ 15 ∷ 16 ∷ 34 ∷ 35 ∷ 17 ∷ 31 ∷ 33 ∷ 21 ∷ 25 ∷ 26 ∷ 27 ∷ []) ≡ true
+  unfolding indexed_tests lent_one_group_tests one_group_tests table_tests other_group_test slice_test mark_count_test mark_test index_test setting_test model_tests undecided_test satisfaction_tests clause_test load_test all any
   indexed_faults fault position e =
-      refused_among (λ f. any (eqb (fault_number f)) (11 ∷ 12 ∷ 13 ∷ 14 ∷ 15 ∷ 16 ∷ 17 ∷ 31 ∷ 33 ∷ 21 ∷ 25 ∷ 26 ∷ 27 ∷ []))
+      refused_among (λ f. any (eqb (fault_number f)) (11 ∷ 12 ∷ 13 ∷ 14 ∷ 15 ∷ 16 ∷ 34 ∷ 35 ∷ 17 ∷ 31 ∷ 33 ∷ 21 ∷ 25 ∷ 26 ∷ 27 ∷ []))
       (indexed_tests t s ++ model_tests t (well_founded_model (book_of t) s.setting)) refl fault position (sym (verdict_is_lem t s) ∙ e)
 
   -- No position is above the limit of one, and rounds are at most as many as atoms can be.

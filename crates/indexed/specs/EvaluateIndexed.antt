@@ -4,7 +4,7 @@ use Rattle.wellfounded.specs.Stages.{well_founded_model}
 use Rattle.tables.specs.declared.Verdict.{Verdict}
 use Rattle.tables.specs.Faults.{Test, first_fault}
 use Rattle.tables.specs.Rows.{rule_count}
-use Rattle.tables.specs.Sound.{Tables, book_of, Slice, sized, lent_tests}
+use Rattle.tables.specs.Sound.{Tables, book_of, Slice, sized, lent_one_group_tests}
 use Rattle.evaluator.specs.Evaluate.{setting_test, evaluation_slices, Evaluation, stopped_or, evaluate_of, Answers}
 use Rattle.indexing.specs.Index.{index_test, index_starts, index_entries, built_or}
 use Rattle.advancing.specs.Waiting.{waiting_counts}
@@ -28,10 +28,10 @@ unfoldable pub sized_slices : Tables → IndexedSlices → List Slice
 sized_slices t s =
     lent_lengths t.atoms (rule_count t.rules) (length s.setting) (length s.values) (length s.levels) (length s.work) (length s.counts)
 
--- The faults that stop it before it writes anything: those of what it is lent, of the lengths of the index, and of the setting.
+-- The faults that stop it, which takes books of group 0 alone, before it writes anything: those of what it is lent, of the lengths of the index, and of the setting.
 unfoldable pub indexed_tests : Tables → IndexedSlices → List Test
 indexed_tests t s =
-    lent_tests t (sized_slices t s) ++ (index_test t (length s.starts) (length s.entries) ∷ setting_test (book_of t) s.setting ∷ [])
+    lent_one_group_tests t (sized_slices t s) ++ (index_test t (length s.starts) (length s.entries) ∷ setting_test (book_of t) s.setting ∷ [])
 
 -- What they come to: Accepted if nothing stops it.
 unfoldable pub indexed_stop : Tables → IndexedSlices → Verdict

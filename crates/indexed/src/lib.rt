@@ -14,7 +14,7 @@ use rounds::bad_setting;
 use tables::marks::mark_defined;
 use tables::refusals::first_refusal;
 use tables::rows::rule_count;
-use tables::sizes::{MAX_ATOMS, table_fault};
+use tables::sizes::{MAX_ATOMS, one_group_fault};
 use tables::values::not_held_atom;
 use tables::{Fault, Found, Verdict};
 
@@ -56,7 +56,9 @@ fn indexed_fault(
         (early_tests (lent atoms rules.now literals.now clauses.now loads.now load_literals.now
         minutes.now marks.now) setting values levels work starts entries counts) }
 {
-    let verdict = table_fault(
+    let rows = rule_count(rules);
+    let fit = slices_fit(atoms, rows, setting, values, levels, work, counts);
+    let verdict = one_group_fault(
         atoms,
         rules,
         literals,
@@ -64,23 +66,20 @@ fn indexed_fault(
         loads,
         load_literals,
         minutes,
+        fit,
     );
     if let Verdict::Refused(_, _) = verdict {
         return verdict;
-    }
-    let rows = rule_count(rules);
-    if !slices_fit(atoms, rows, setting, values, levels, work, counts) {
-        return Verdict::Refused(Fault::SliceLength, 0);
     }
     if marks.len() != atoms {
         return Verdict::Refused(Fault::Mark, 0);
     }
     let mark = not_held_atom(marks);
-    let fit = index_fits(atoms, rules, starts, entries);
-    first_refusal(mark, fit, Fault::IndexSize)
+    let exact = index_fits(atoms, rules, starts, entries);
+    first_refusal(Fault::Mark, mark, exact, Fault::IndexSize)
 }
 
-// Follows the rules of a book without a fault of 11 to 17, 31 or 33: refused for the setting with nothing written, or the index is built and all
+// Follows the rules of a book of group 0 without a fault of 11 to 17, 31 or 33: refused for the setting with nothing written, or the index is built and all
 // rounds are done.
 fn follow(
     rules: &[u16],
@@ -119,7 +118,7 @@ fn follow(
     }
 }
 
-// Evaluates a book at the open values as the plain maker does, by an index that it builds itself. For the numbers 0, 25, 26 and 27 values become the
+// Evaluates a book of group 0 at the open values as the plain maker does, by an index that it builds itself. For the numbers 0, 25, 26 and 27 values become the
 // well-founded model, levels the stages and work all 0, the index stands in starts and entries, and counts hold how many literals of each rule's body
 // are not true; for every other number nothing is written.
 pub fn evaluate_indexed(

@@ -56,7 +56,7 @@ fn index_fault(
     }
     let mark = not_held_atom(marks);
     let fit = index_fits(atoms, rules, starts, entries);
-    first_refusal(mark, fit, Fault::IndexSize)
+    first_refusal(Fault::Mark, mark, fit, Fault::IndexSize)
 }
 
 // Builds the index of a book in two lent slices. Literal L's entries run from start L to start L + 1: the rows of the rules that hold it,

@@ -10,7 +10,7 @@ use lib.ListN.{length}
 use borrow.Author.Tests.{eqb-true, ne_eqb, leb-true, le-leb}
 use Rattle.wellfounded.specs.Lists.{all}
 use Rattle.wellfounded.proofs.Tests.{both, first, second}
-use Rattle.tables.specs.Limits.{max_atoms}
+use Rattle.tables.specs.Limits.{max_atoms, max_group}
 use Rattle.tables.specs.declared.Fault.TheVariants.{OutsideLimits}
 use Rattle.format.specs.declared.kinds.Kind.TheVariants.{Atoms, Claim}
 use Rattle.format.specs.Forms.{Form, render_all}
@@ -21,11 +21,11 @@ use Rattle.judging.specs.declared.reached.Space.{Space}
 use Rattle.judging.specs.declared.reached.Judged.{Judged}
 use Rattle.judging.specs.declared.reached.Judged.TheVariants.{Passed, Failed}
 use Rattle.judging.specs.States.{nothing_yet, atoms_stood, open_stood, start, phase_after, advanced, after, counts_within, fits}
-use Rattle.judging.specs.Judging.{atom_bound, numbers_within, within_limits, may_follow, parts_in_order, in_order, levelled, lines, judge_lines, judge_text, max_bytes, forms_from, forms_of}
+use Rattle.judging.specs.Judging.{atom_bound, numbers_within, within_limits, may_follow, not_falling, parts_in_order, in_order, levelled, lines, judge_lines, judge_text, max_bytes, forms_from, forms_of}
 use Rattle.judging.specs.Books.{after_all, IsBook, BookText, passes, all_pass, PassesUpTo}
 use Rattle.judging.proofs.Walking.{judge_passed, forms_all, WalkEnd, accepted, refused_at, walked}
-use Rattle.judging.proofs.Sequences.{follows, may_follow_lem, follows_here, follows_later, phase_on, nothing_after, follows_sequence, sequence_follows}
-use Rattle.judging.proofs.StateLaws.{start_limits, after_size, groups_after}
+use Rattle.judging.proofs.Sequences.{follows, may_follow_lem, follows_here, follows_later, follows_kept, phase_on, nothing_after, follows_sequence, sequence_follows}
+use Rattle.judging.proofs.StateLaws.{start_limits, after_size, after_group, groups_after}
 use Rattle.judging.proofs.Counts.{counts_before, start_fits, fits_before}
 
 -- What it is for a form to pass, part by part.
@@ -34,6 +34,7 @@ pub record Passing (space : Space) (s : Reached) (f : Form) : Type 0 where
   pub numbers : numbers_within s f ≡ true
   pub counts : counts_within (after s f) ≡ true
   pub follows : may_follow (kind_in f) s.phase ≡ true
+  pub rising : not_falling s f ≡ true
   pub ordered : parts_in_order s f ≡ true
   pub held : fits space (after s f) ≡ true
 
@@ -49,14 +50,15 @@ module _ (space : Space) (s : Reached) (f : Form) where
         levels = first (levelled s f) _ h;
         numbers = first (numbers_within s f) (counts_within (after s f)) limits;
         counts = second (numbers_within s f) (counts_within (after s f)) limits;
-        follows = first (may_follow (kind_in f) s.phase) (parts_in_order s f) order;
-        ordered = second (may_follow (kind_in f) s.phase) (parts_in_order s f) order;
+        follows = first (may_follow (kind_in f) s.phase) _ order;
+        rising = first (not_falling s f) _ (second (may_follow (kind_in f) s.phase) _ order);
+        ordered = second (not_falling s f) _ (second (may_follow (kind_in f) s.phase) _ order);
         held = second (in_order s f) (fits space (after s f)) later;
       }
 
   pub passing_passes : Passing space s f → passes space s f ≡ true
   unfolding passes within_limits in_order
-  passing_passes p = simp (p.levels, p.numbers, p.counts, p.follows, p.ordered, p.held)
+  passing_passes p = simp (p.levels, p.numbers, p.counts, p.follows, p.rising, p.ordered, p.held)
 
 -- Once an atoms form stood, the number of atoms stays.
 size_after : (s : Reached) (f : Form) (fs : List Form) → atoms_stood ≤ s.phase → follows s (f ∷ fs) ≡ true → s.size ≡ (after s f).size
@@ -120,8 +122,9 @@ module _ (space : Space) where
   unfolding all_pass after_all follows
   passed_follows s [] h l = le-leb _ _ l
   passed_follows s (f ∷ fs) h l =
-      both (may_follow (kind_in f) s.phase) _ (passing space s f (first (passes space s f) _ h)).follows
-      (passed_follows (after s f) fs (second (passes space s f) _ h) l)
+      let here = passing space s f (first (passes space s f) _ h) in
+      both (may_follow (kind_in f) s.phase) _ here.follows
+      (both (not_falling s f) _ here.rising (passed_follows (after s f) fs (second (passes space s f) _ h) l))
 
   passed_counts : (s : Reached) (fs : List Form) → all_pass space s fs ≡ true → counts_within s ≡ true → counts_within (after_all s fs) ≡ true
   unfolding all_pass after_all
@@ -138,7 +141,7 @@ module _ (space : Space) where
   passed_tested s [] g h = record { levels = refl; numbers = refl; ordered = refl }
   passed_tested s (f ∷ fs) g h =
       let here = passing space s f (first (passes space s f) _ h) in
-      let later = passed_tested (after s f) fs (second (may_follow (kind_in f) s.phase) _ g) (second (passes space s f) _ h) in
+      let later = passed_tested (after s f) fs (follows_later s f fs g) (second (passes space s f) _ h) in
       let end : atoms_stood ≤ (after_all (after s f) fs).phase = omega (arith, follows_end s (f ∷ fs) g) in
       let agree : atoms_stood ≤ s.phase → s.size ≡ (after_all (after s f) fs).size = (λ l. size_kept_lem s (f ∷ fs) l g) in
       record {
@@ -155,7 +158,7 @@ module _ (space : Space) where
   book_passes s (f ∷ fs) g t c k =
       let end = after_all (after s f) fs in
       let may = first (may_follow (kind_in f) s.phase) _ g in
-      let onwards = second (may_follow (kind_in f) s.phase) _ g in
+      let onwards = follows_later s f fs g in
       let stood : atoms_stood ≤ end.phase = omega (arith, follows_end s (f ∷ fs) g) in
       let agree : atoms_stood ≤ s.phase → s.size ≡ (after_all (after s f) fs).size = (λ l. size_kept_lem s (f ∷ fs) l g) in
       let rest : Tested (after s f) fs = record { levels = second (levelled end f) _ t.levels; numbers = second (numbers_within end f) _ t.numbers; ordered = second (parts_in_order end f) _ t.ordered } in
@@ -165,6 +168,7 @@ module _ (space : Space) where
         numbers = numbers_same s end agree stood f may ∙ first (numbers_within end f) _ t.numbers;
         counts = counts_before (after s f) fs c;
         follows = may;
+        rising = follows_kept s f fs g;
         ordered = parts_same s end agree stood f may ∙ first (parts_in_order end f) _ t.ordered;
         held = fits_before space (after s f) fs onwards k;
       }))
@@ -181,6 +185,18 @@ size_within space s (f ∷ fs) l h =
 pub passed_size : (space : Space) (fs : List Form) → PassesUpTo space fs → (after_all start fs).size ≤ max_atoms
 unfolding start
 passed_size space fs p = size_within space _ fs (omega arith) p.passed
+
+-- Nor does a group exceed the highest that a book has.
+group_within_lem :
+    (space : Space) (s : Reached) (fs : List Form) → s.group ≤ max_group → all_pass space s fs ≡ true → (after_all s fs).group ≤ max_group
+unfolding all_pass passes after_all
+group_within_lem space s [] l h = l
+group_within_lem space s (f ∷ fs) l h =
+    group_within_lem space (after s f) fs (after_group s f l (first (within_limits s f) _ (second (levelled s f) _ (first (passes space s f) _ h)))) (second (passes space s f) _ h)
+
+pub passed_group : (space : Space) (fs : List Form) → PassesUpTo space fs → (after_all start fs).group ≤ max_group
+unfolding start
+passed_group space fs p = group_within_lem space _ fs (omega arith) p.passed
 
 -- Forms pass in turn up to a state form exactly if they are a book.
 module _ (space : Space) (fs : List Form) where
@@ -236,3 +252,9 @@ module _ (space : Space) (text : List ℕ) where
   accepted_size t e =
       let k = accepted_book t e in
       rw k.2 (passed_size space k.0 (book_passed space k.0 k.1.book).0)
+
+  -- There are at most eight groups.
+  pub accepted_group : (t : Reached) → judge_text space text ≡ Passed t → t.group ≤ max_group
+  accepted_group t e =
+      let k = accepted_book t e in
+      rw k.2 (passed_group space k.0 (book_passed space k.0 k.1.book).0)

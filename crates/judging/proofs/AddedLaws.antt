@@ -1,7 +1,7 @@
 -- What a form of each kind adds: where all counts were within the limits and had space, only those that it adds to have to be compared.
 -- Assumes nothing.
 use Prim.Native.Nat.{ℕ, ◌+◌, ◌*◌}
-use mathlib.Core.Path.{◌≡◌}
+use mathlib.Core.Path.{◌≡◌, refl}
 use mathlib.Core.Bool.{true, false, ◌&&◌, and-true}
 use native.Mathlib.Nat.{add-zero}
 use native.Mathlib.Omega.{arith}
@@ -11,8 +11,8 @@ use Rattle.tables.specs.Limits.{max_rule_rows, max_clause_rows, max_literals, ma
 use Rattle.tables.specs.Rows.{rule_width, clause_width}
 use Rattle.tables.specs.Loads.{load_width}
 use Rattle.format.specs.declared.kinds.Kind.{Kind}
-use Rattle.format.specs.declared.kinds.Kind.TheVariants.{Rule, Clause, Load, Open, Claim}
-use Rattle.format.specs.Views.{kind_number, same_kind}
+use Rattle.format.specs.declared.kinds.Kind.TheVariants.{Rule, Clause, Load, Open, Claim, Also}
+use Rattle.format.specs.Views.{kind_number, same_kind, rule_kind}
 use Rattle.judging.specs.declared.reached.Reached.{Reached}
 use Rattle.judging.specs.declared.reached.Space.{Space}
 use Rattle.judging.specs.LentTables.{Rules, Literals, Clauses, Loads, LoadLiterals, Minutes, every_table, room_in}
@@ -22,7 +22,7 @@ use Rattle.judging.proofs.Counts.{CountsWithin, counts_within_lem, fits_each}
 use Rattle.judging.proofs.StateLaws.{groups_claim}
 
 -- Each count is within its limit and has space in its table.
-module _ (space : Space) (s : Reached) (size parts : ℕ) (fitted : CountsFit space s) where
+module _ (space : Space) (s : Reached) (number parts : ℕ) (fitted : CountsFit space s) where
   few : CountsWithin s
   few = counts_within_lem s fitted.limits
 
@@ -71,49 +71,58 @@ module _ (space : Space) (s : Reached) (size parts : ℕ) (fitted : CountsFit sp
   -- A rule, a clause and a load line add a row, and literals or terms.
   pub rule_limits :
       (leb (s.rules + rule_width) (max_rule_rows * rule_width) && leb (s.literals + parts) max_literals)
-      ≡ counts_within (added s Rule size parts)
-  unfolding added advanced counts_within same_kind kind_number
+      ≡ counts_within (added s Rule number parts)
+  unfolding added advanced counts_within rule_kind same_kind kind_number
   rule_limits = simp (add-zero, clauses_few, loads_few, terms_few, and-true)
 
   pub rule_space :
       (leb (s.rules + rule_width) space.rules && leb (s.literals + parts) space.literals)
-      ≡ fits space (added s Rule size parts)
-  unfolding added advanced phase_after same_kind kind_number fits every_table count_in room_in values_counted levels_counted
+      ≡ fits space (added s Rule number parts)
+  unfolding added advanced phase_after rule_kind same_kind kind_number fits every_table count_in room_in values_counted levels_counted
   rule_space = simp (add-zero, clauses_fit, loads_fit, terms_fit, minutes_fit, none_fits space.marks, none_fits space.values, none_fits space.levels, and-true)
+
+  -- An also form adds what a rule does.
+  pub also_limits : counts_within (added s Rule 0 parts) ≡ counts_within (added s Also number parts)
+  unfolding added advanced counts_within rule_kind same_kind kind_number
+  also_limits = refl
+
+  pub also_space : fits space (added s Rule 0 parts) ≡ fits space (added s Also number parts)
+  unfolding added advanced phase_after rule_kind same_kind kind_number fits every_table count_in room_in values_counted levels_counted
+  also_space = refl
 
   pub clause_limits :
       (leb (s.literals + parts) max_literals && leb (s.clauses + clause_width) (max_clause_rows * clause_width))
-      ≡ counts_within (added s Clause size parts)
-  unfolding added advanced counts_within same_kind kind_number
+      ≡ counts_within (added s Clause number parts)
+  unfolding added advanced counts_within rule_kind same_kind kind_number
   clause_limits = simp (add-zero, rules_few, loads_few, terms_few, and-true)
 
   pub clause_space :
       (leb (s.literals + parts) space.literals && leb (s.clauses + clause_width) space.clauses)
-      ≡ fits space (added s Clause size parts)
-  unfolding added advanced phase_after same_kind kind_number fits every_table count_in room_in values_counted levels_counted
+      ≡ fits space (added s Clause number parts)
+  unfolding added advanced phase_after rule_kind same_kind kind_number fits every_table count_in room_in values_counted levels_counted
   clause_space = simp (add-zero, rules_fit, loads_fit, terms_fit, minutes_fit, none_fits space.marks, none_fits space.values, none_fits space.levels, and-true)
 
   pub load_limits :
       (leb (s.loads + load_width) (max_load_rows * load_width) && leb (s.terms + parts) max_terms)
-      ≡ counts_within (added s Load size parts)
-  unfolding added advanced counts_within same_kind kind_number
+      ≡ counts_within (added s Load number parts)
+  unfolding added advanced counts_within rule_kind same_kind kind_number
   load_limits = simp (add-zero, rules_few, literals_few, clauses_few)
 
   pub load_space :
       (leb (s.loads + load_width) space.loads && leb (s.terms + parts) space.load_literals && leb (s.terms + parts) space.minutes)
-      ≡ fits space (added s Load size parts)
-  unfolding added advanced phase_after same_kind kind_number fits every_table count_in room_in values_counted levels_counted
+      ≡ fits space (added s Load number parts)
+  unfolding added advanced phase_after rule_kind same_kind kind_number fits every_table count_in room_in values_counted levels_counted
   load_space = simp (add-zero, rules_fit, literals_fit, clauses_fit, none_fits space.marks, none_fits space.values, none_fits space.levels, and-true)
 
   -- The other kinds add to no table that grows from line to line.
-  module _ (kind : Kind) (noRule : same_kind kind Rule ≡ false) (noClause : same_kind kind Clause ≡ false) (noLoad : same_kind kind Load ≡ false) where
-    pub other_limits : true ≡ counts_within (added s kind size parts)
+  module _ (kind : Kind) (noRule : rule_kind kind ≡ false) (noClause : same_kind kind Clause ≡ false) (noLoad : same_kind kind Load ≡ false) where
+    pub other_limits : true ≡ counts_within (added s kind number parts)
     unfolding added advanced counts_within
     other_limits = simp (noRule, noClause, noLoad, add-zero, rules_few, literals_few, clauses_few, loads_few, terms_few)
 
     -- and need space only where they tell a state.
     pub other_space :
-        leb open_stood (phase_after kind) ≡ false → leb claim_stood (phase_after kind) ≡ false → true ≡ fits space (added s kind size parts)
+        leb open_stood (phase_after kind) ≡ false → leb claim_stood (phase_after kind) ≡ false → true ≡ fits space (added s kind number parts)
     unfolding added advanced fits every_table count_in room_in values_counted levels_counted
     other_space o c =
         simp (
@@ -134,13 +143,13 @@ module _ (space : Space) (s : Reached) (size parts : ℕ) (fitted : CountsFit sp
           none_fits space.levels,
         )
 
-  pub open_space : (leb s.size space.marks && leb s.size space.values) ≡ fits space (added s Open size parts)
-  unfolding added advanced phase_after same_kind kind_number fits every_table count_in room_in values_counted levels_counted
+  pub open_space : (leb s.size space.marks && leb s.size space.values) ≡ fits space (added s Open number parts)
+  unfolding added advanced phase_after rule_kind same_kind kind_number fits every_table count_in room_in values_counted levels_counted
   open_space =
       simp (add-zero, rules_fit, literals_fit, clauses_fit, loads_fit, terms_fit, minutes_fit, none_fits space.levels, and-true)
 
   pub claim_space :
       {told : ℕ} → told ≡ s.size * groups_reached s →
-      (leb s.size space.marks && leb s.size space.values && leb told space.levels) ≡ fits space (added s Claim size parts)
-  unfolding added advanced phase_after same_kind kind_number fits every_table count_in room_in values_counted levels_counted
-  claim_space e = rw (groups_claim s size 0 0, e) (simp (add-zero, rules_fit, literals_fit, clauses_fit, loads_fit, terms_fit, minutes_fit))
+      (leb s.size space.marks && leb s.size space.values && leb told space.levels) ≡ fits space (added s Claim number parts)
+  unfolding added advanced phase_after rule_kind same_kind kind_number fits every_table count_in room_in values_counted levels_counted
+  claim_space e = rw (groups_claim s number number 0 0, e) (simp (add-zero, rules_fit, literals_fit, clauses_fit, loads_fit, terms_fit, minutes_fit))

@@ -1,6 +1,6 @@
 -- What a refusal says: the forms before its position pass, and the fault tells what comes there; and no full set of tables is refused for its space.
 -- Assumes nothing.
-use Prim.Native.Nat.{ℕ, ◌+◌, ◌*◌, ◌≤◌, ◌<◌}
+use Prim.Native.Nat.{ℕ, ◌+◌, ◌≤◌, ◌<◌}
 use mathlib.Core.Path.{◌≡◌, refl, sym, ap, ◌∙◌}
 use mathlib.Core.Bool.{Bool, true, false, cond}
 use mathlib.Core.List.{List, [], ◌∷◌, ◌++◌, append-nil}
@@ -9,7 +9,7 @@ use lib.Dec.{leb}
 use lib.ListN.{length}
 use borrow.Author.Tests.{leb-true, leb-false, le-leb, lt-leb}
 use Rattle.wellfounded.proofs.Tests.{first, second, clash}
-use Rattle.tables.specs.Limits.{max_atoms}
+use Rattle.tables.specs.Limits.{max_atoms, max_group}
 use Rattle.tables.specs.declared.Fault.{Fault}
 use Rattle.tables.specs.Faults.{fault_number}
 use Rattle.tables.specs.declared.Fault.TheVariants.{Malformed, OutsideLimits, OutOfOrder, NoSpace}
@@ -19,8 +19,8 @@ use Rattle.judging.specs.declared.reached.Reached.{Reached}
 use Rattle.judging.specs.declared.reached.Space.{Space}
 use Rattle.judging.specs.declared.reached.Judged.{Judged}
 use Rattle.judging.specs.declared.reached.Judged.TheVariants.{Failed}
-use Rattle.judging.specs.LentTables.{Table, Levels, full_size}
-use Rattle.judging.specs.States.{open_stood, start, after, counts_within, groups_reached, fits, count_in}
+use Rattle.judging.specs.LentTables.{Table, full_size}
+use Rattle.judging.specs.States.{open_stood, start, after, counts_within, fits, count_in}
 use Rattle.judging.specs.Judging.{within_limits, in_order, on, stop, judge_form, levelled, if_levelled, lines, continued, judge_lines, judge_text, max_bytes}
 use Rattle.judging.specs.Books.{after_all, passes, all_pass, PassesUpTo, NoRoom, FullSpace}
 use Rattle.judging.specs.Books.{FirstRefused, too_long, no_form, not_passing, no_state}
@@ -28,8 +28,8 @@ use Rattle.judging.proofs.LineLaws.{levelled_got, line_formed, judge_line_lem, j
 use Rattle.judging.proofs.Walking.{after_more, judge_passed, WalkEnd, accepted, refused_at, walked}
 use Rattle.judging.proofs.Counts.{counts_within_lem, each_fits}
 use Rattle.judging.proofs.TableLaws.{each_table}
-use Rattle.judging.proofs.Accepted.{passed_size}
-use Rattle.judging.proofs.StateLaws.{after_counts, after_size, values_few, levels_few}
+use Rattle.judging.proofs.Accepted.{passed_size, passed_group}
+use Rattle.judging.proofs.StateLaws.{after_counts, after_size, after_group, values_few, levels_few, levels_most}
 
 module _ (space : Space) (text : List ℕ) (fault : Fault) (at : ℕ) where
   -- Every refusal has its reason.
@@ -176,20 +176,16 @@ module _ (space : Space) (text : List ℕ) (at : ℕ) where
       }))
 
 -- What is counted within the limits of a book has its place in a table of full size.
-levels_full : (s : Reached) → s.size ≤ max_atoms → s.size * groups_reached s ≤ full_size Levels
-unfolding groups_reached full_size
-levels_full s l = omega arith
-
-counts_full : (s : Reached) → counts_within s ≡ true → s.size ≤ max_atoms → (table : Table) → count_in s table ≤ full_size table
+counts_full : (s : Reached) → counts_within s ≡ true → s.size ≤ max_atoms → s.group ≤ max_group → (table : Table) → count_in s table ≤ full_size table
 unfolding count_in full_size
-counts_full s c l =
+counts_full s c l g =
     let n = counts_within_lem s c in
     each_table (λ table. count_in s table ≤ full_size table) n.rules n.literals n.clauses n.loads n.terms n.terms
-    (omega (arith, values_few s)) (omega (arith, values_few s)) (omega (arith, levels_few s, levels_full s l))
+    (omega (arith, values_few s)) (omega (arith, values_few s)) (omega (arith, levels_few s, levels_most s l g))
 
 module _ (space : Space) where
-  full_held : (s : Reached) → FullSpace space → counts_within s ≡ true → s.size ≤ max_atoms → fits space s ≡ true
-  full_held s full c l = each_fits space s λ table. omega (arith, full.each table, counts_full s c l table)
+  full_held : (s : Reached) → FullSpace space → counts_within s ≡ true → s.size ≤ max_atoms → s.group ≤ max_group → fits space s ≡ true
+  full_held s full c l g = each_fits space s λ table. omega (arith, full.each table, counts_full s c l g table)
 
   -- Full tables are never too small.
   pub full_space_lem : (text : List ℕ) (at : ℕ) → FullSpace space → judge_text space text ≡ Failed NoSpace at → ⊥
@@ -197,4 +193,5 @@ module _ (space : Space) where
       let k = no_space space text at e in
       let s = after_all start k.before in
       let size = after_size s k.form (passed_size space k.before k.passing) k.within in
-      clash (full_held (after s k.form) full (after_counts s k.form k.within) size) (rw (after_more start k.before k.form) at k.full)
+      let group = after_group s k.form (passed_group space k.before k.passing) k.within in
+      clash (full_held (after s k.form) full (after_counts s k.form k.within) size group) (rw (after_more start k.before k.form) at k.full)

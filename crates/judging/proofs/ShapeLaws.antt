@@ -5,16 +5,16 @@ use mathlib.Core.Path.{◌≡◌, refl, ap}
 use mathlib.Core.Bool.{Bool, true, false, cond, not, ◌&&◌, ◌||◌}
 use mathlib.Core.List.{List, [], ◌∷◌, map}
 use native.Mathlib.Omega.{arith}
-use lib.Dec.{eqb, ltb}
+use lib.Dec.{eqb, leb, ltb}
 use lib.ListN.{length}
 use borrow.Author.Tests.{ltb-true, not-true, not-false}
 use Rattle.wellfounded.specs.Lists.{all}
 use Rattle.wellfounded.proofs.Tests.{first, second}
 use Rattle.tables.specs.Limits.{max_atoms}
 use Rattle.tables.specs.declared.Fault.TheVariants.{OutsideLimits, OutOfOrder, NoSpace}
-use Rattle.format.specs.declared.kinds.Kind.TheVariants.{Rule, Clause, Load, Open, Claim, Defined}
+use Rattle.format.specs.declared.kinds.Kind.TheVariants.{Clause, Load, Open, Claim, Defined, Also}
 use Rattle.format.specs.Forms.{Form, render}
-use Rattle.format.specs.Views.{view_of, kind_in, kind_number, same_kind, of_kind}
+use Rattle.format.specs.Views.{view_of, kind_in, kind_number, same_kind, rule_kind, of_kind}
 use Rattle.format.proofs.ViewLaws.{same_kind_lem, lists_by_kind, parts_altogether, lists_rendered}
 use Rattle.numerals.specs.internal.Offsets.{beyond_limits, capped}
 use Rattle.numerals.proofs.CappedLaws.{capped_small}
@@ -24,9 +24,9 @@ use Rattle.judging.specs.declared.reached.Shape.{Shape}
 use Rattle.judging.specs.declared.reached.Counted.{Counted}
 use Rattle.judging.specs.declared.reached.Move.TheVariants.{On, Stop}
 use Rattle.judging.specs.States.{advanced, after, counts_within, fits}
-use Rattle.judging.specs.Judging.{atom_bound, numbers_within, within_limits, may_follow, rises_from, parts_in_order, in_order, Step, on, stop, judge_form}
-use Rattle.judging.specs.internal.Shapes.{capped_rise, parts_in, shape_of, order_of, added, reached_by, judge_shape, CountedAs, as_move}
-use Rattle.judging.proofs.LimitLaws.{size_limit, atoms_limit}
+use Rattle.judging.specs.Judging.{atom_bound, numbers_within, within_limits, may_follow, not_falling, rises_from, parts_in_order, in_order, Step, on, stop, judge_form}
+use Rattle.judging.specs.internal.Shapes.{capped_rise, parts_in, number_in, shape_of, order_of, added, reached_by, judge_shape, CountedAs, as_move}
+use Rattle.judging.proofs.LimitLaws.{size_limit, atoms_limit, group_limit}
 use Rattle.judging.proofs.StateLaws.{bound_most}
 
 -- Numbers below a bound within the limits are not capped.
@@ -39,18 +39,18 @@ capped_all bound (a ∷ atoms) l t =
 
 -- The parts of a form are its literals, terms or pairs.
 module _ (f : Form) where
-  literals_parts : cond (same_kind (kind_in f) Rule || same_kind (kind_in f) Clause) (parts_in (view_of f)) 0 ≡ length (view_of f).literals
+  literals_parts : cond (rule_kind (kind_in f) || same_kind (kind_in f) Clause) (parts_in (view_of f)) 0 ≡ length (view_of f).literals
   unfolding parts_in
-  literals_parts = step (same_kind (kind_in f) Rule || same_kind (kind_in f) Clause) refl
+  literals_parts = step (rule_kind (kind_in f) || same_kind (kind_in f) Clause) refl
     where
       step :
-          (b : Bool) → (same_kind (kind_in f) Rule || same_kind (kind_in f) Clause) ≡ b →
+          (b : Bool) → (rule_kind (kind_in f) || same_kind (kind_in f) Clause) ≡ b →
           cond b (parts_in (view_of f)) 0 ≡ length (view_of f).literals
       step true e = rw e
       step false e = rw ((lists_by_kind f).no_literals e)
 
   terms_parts : cond (same_kind (kind_in f) Load) (parts_in (view_of f)) 0 ≡ length (view_of f).terms
-  unfolding parts_in same_kind kind_number
+  unfolding parts_in rule_kind same_kind kind_number
   terms_parts = step (same_kind (kind_in f) Load) refl
     where
       step : (b : Bool) → same_kind (kind_in f) Load ≡ b → cond b (parts_in (view_of f)) 0 ≡ length (view_of f).terms
@@ -58,14 +58,14 @@ module _ (f : Form) where
       step false e = rw ((lists_by_kind f).no_terms e)
 
   claim_parts : same_kind (kind_in f) Claim ≡ true → parts_in (view_of f) ≡ length (view_of f).pairs
-  unfolding parts_in same_kind kind_number
+  unfolding parts_in rule_kind same_kind kind_number
   claim_parts e = rw (same_kind_lem (kind_in f) Claim e)
 
   -- They are no more than the bytes of the form's line.
   pub parts_few : parts_in (view_of f) ≤ length (render f)
   unfolding parts_in
   parts_few =
-      step (same_kind (kind_in f) Rule || same_kind (kind_in f) Clause) (same_kind (kind_in f) Load)
+      step (rule_kind (kind_in f) || same_kind (kind_in f) Clause) (same_kind (kind_in f) Load)
       (same_kind (kind_in f) Open || same_kind (kind_in f) Defined) (lists_rendered f)
     where
       step :
@@ -77,17 +77,47 @@ module _ (f : Form) where
       step false false true l = omega arith
       step false false false l = omega arith
 
--- Where a form's numbers are within their limits, its shape has its number of atoms and the order of its parts.
+-- Where a form's numbers are within their limits, its shape has its number of atoms, its group and the order of its parts.
 same_size : (s : Reached) (f : Form) → numbers_within s f ≡ true → capped (view_of f).size ≡ (view_of f).size
 same_size s f t = let l = size_limit s f t in capped_small (view_of f).size (omega arith)
 
+same_group : (s : Reached) (f : Form) → numbers_within s f ≡ true → capped (view_of f).group ≡ (view_of f).group
+same_group s f t = let l = group_limit s f t in capped_small (view_of f).group (omega arith)
+
+-- What its shape names is what it names.
+same_told :
+    (s : Reached) (f : Form) (literals terms : ℕ) → numbers_within s f ≡ true →
+    advanced s (kind_in f) (capped (number_in (view_of f))) (capped (number_in (view_of f))) literals terms
+    ≡ advanced s (kind_in f) (view_of f).size (view_of f).group literals terms
+unfolding advanced number_in same_kind kind_number
+same_told s f literals terms t = step (same_kind (kind_in f) Also) refl
+  where
+    step :
+        (b : Bool) → same_kind (kind_in f) Also ≡ b →
+        advanced s (kind_in f) (capped (number_in (view_of f))) (capped (number_in (view_of f))) literals terms
+        ≡ advanced s (kind_in f) (view_of f).size (view_of f).group literals terms
+    step true e = rw (same_kind_lem (kind_in f) Also e, same_group s f t)
+    step false e = rw (e, same_size s f t)
+
+same_falling :
+    (s : Reached) (f : Form) → numbers_within s f ≡ true →
+    cond (same_kind (kind_in f) Also) (leb s.group (capped (number_in (view_of f)))) true ≡ not_falling s f
+unfolding number_in not_falling of_kind
+same_falling s f t = step (same_kind (kind_in f) Also) refl
+  where
+    step :
+        (b : Bool) → same_kind (kind_in f) Also ≡ b →
+        cond b (leb s.group (capped (cond b (view_of f).group (view_of f).size))) true ≡ cond b (leb s.group (view_of f).group) true
+    step true e = rw (same_group s f t)
+    step false e = refl
+
 same_order :
     (s : Reached) (f : Form) → s.size ≤ max_atoms → numbers_within s f ≡ true →
-    order_of s (kind_in f) (parts_in (view_of f)) (capped_rise (view_of f).atoms) ≡ parts_in_order s f
+    order_of s (kind_in f) (capped (number_in (view_of f))) (parts_in (view_of f)) (capped_rise (view_of f).atoms) ≡ (not_falling s f && parts_in_order s f)
 unfolding capped_rise order_of parts_in_order of_kind
 same_order s f l t =
-    rw (capped_all (atom_bound s) (view_of f).atoms (omega (arith, bound_most s l)) (atoms_limit s f t))
-    (ap (λ (b : Bool). rises_from 0 (view_of f).atoms && b) (step (same_kind (kind_in f) Claim) refl))
+    rw (same_falling s f t, capped_all (atom_bound s) (view_of f).atoms (omega (arith, bound_most s l)) (atoms_limit s f t))
+    (ap (λ (b : Bool). not_falling s f && (rises_from 0 (view_of f).atoms && b)) (step (same_kind (kind_in f) Claim) refl))
   where
     step :
         (b : Bool) → same_kind (kind_in f) Claim ≡ b →
@@ -97,39 +127,41 @@ same_order s f l t =
 
 -- A shape's parts are counted as its form's literals and terms are.
 same_parts :
-    (s : Reached) (f : Form) (size : ℕ) →
-    added s (kind_in f) size (parts_in (view_of f)) ≡ advanced s (kind_in f) size (length (view_of f).literals) (length (view_of f).terms)
+    (s : Reached) (f : Form) (number : ℕ) →
+    added s (kind_in f) number (parts_in (view_of f)) ≡ advanced s (kind_in f) number number (length (view_of f).literals) (length (view_of f).terms)
 unfolding added
-same_parts s f size = rw (literals_parts f, terms_parts f)
+same_parts s f number = rw (literals_parts f, terms_parts f)
 
 -- Numbers beyond every limit are lost in a shape; its judgement is the form's all the same.
 pub shape_judged : (space : Space) (s : Reached) (f : Form) → s.size ≤ max_atoms → judge_shape space s (shape_of s f) ≡ judge_form space s f
 unfolding judge_shape shape_of reached_by after judge_form within_limits in_order
-shape_judged space s f l = rw (same_parts s f (capped (view_of f).size)) (step (numbers_within s f) refl)
+shape_judged space s f l = rw (same_parts s f (capped (number_in (view_of f)))) (step (numbers_within s f) refl)
   where
-    judged : Bool → ℕ → Bool → Step
-    judged within size ordered =
-        let then = advanced s (kind_in f) size (length (view_of f).literals) (length (view_of f).terms) in
+    judged : Bool → Reached → Bool → Step
+    judged within then ordered =
         cond (within && counts_within then)
         (cond (may_follow (kind_in f) s.phase && ordered) (cond (fits space then) (on then) (stop NoSpace)) (stop OutOfOrder))
         (stop OutsideLimits)
 
     step :
         (t : Bool) → numbers_within s f ≡ t →
-        judged t (capped (view_of f).size) (order_of s (kind_in f) (parts_in (view_of f)) (capped_rise (view_of f).atoms))
-        ≡ judged t (view_of f).size (parts_in_order s f)
-    step true e = rw (same_size s f e, same_order s f l e)
+        judged t
+        (advanced s (kind_in f) (capped (number_in (view_of f))) (capped (number_in (view_of f))) (length (view_of f).literals) (length (view_of f).terms))
+        (order_of s (kind_in f) (capped (number_in (view_of f))) (parts_in (view_of f)) (capped_rise (view_of f).atoms))
+        ≡ judged t (advanced s (kind_in f) (view_of f).size (view_of f).group (length (view_of f).literals) (length (view_of f).terms))
+        (not_falling s f && parts_in_order s f)
+    step true e = rw (same_told s f (length (view_of f).literals) (length (view_of f).terms) e, same_order s f l e)
     step false e = refl
 
 -- Code counts a form of some shape, and tests its limits, then its order and then the space for it.
 module _ (space : Space) (s : Reached) (shape : Shape) (next : ℕ) {answer : Counted}
-    (counts : CountedAs space (added s shape.kind shape.size shape.parts) answer) where
+    (counts : CountedAs space (added s shape.kind shape.number shape.parts) answer) where
   pub shape_outside_limits : not (shape.within && answer.within) ≡ true → Stop OutsideLimits ≡ as_move next (judge_shape space s shape)
   unfolding reached_by judge_shape as_move
   shape_outside_limits t = rw (← counts.limits, not-true (shape.within && answer.within) t)
 
   module _ {follows ordered : Bool} (limits : not (shape.within && answer.within) ≡ false) (follow : follows ≡ may_follow shape.kind s.phase)
-      (order : ordered ≡ order_of s shape.kind shape.parts shape.rising) where
+      (order : ordered ≡ order_of s shape.kind shape.number shape.parts shape.rising) where
     pub shape_out_of_order : not (follows && ordered) ≡ true → Stop OutOfOrder ≡ as_move next (judge_shape space s shape)
     unfolding reached_by judge_shape as_move
     shape_out_of_order t =

@@ -3,22 +3,23 @@
 use Prim.Native.Nat.{ℕ, ◌*◌, ◌≤◌, ◌<◌}
 use mathlib.Core.Path.{◌≡◌, refl}
 use mathlib.Core.Bool.{Bool, true, false, cond, ◌||◌}
+use native.Mathlib.Nat.{mul-le-mul}
 use native.Mathlib.Omega.{arith}
 use lib.Dec.{eqb, leb}
 use borrow.Author.Tests.{le-leb, lt-leb}
 use Rattle.wellfounded.proofs.Tests.{first, second}
-use Rattle.tables.specs.Limits.{max_atoms}
+use Rattle.tables.specs.Limits.{max_atoms, max_group, max_groups}
 use Rattle.tables.specs.declared.Fault.TheVariants.{OutsideLimits, OutOfOrder, NoSpace}
 use Rattle.format.specs.declared.kinds.Kind.{Kind}
-use Rattle.format.specs.declared.kinds.Kind.TheVariants.{Atoms, Rule, Clause, Load, Open, Claim, Defined, Unknown}
+use Rattle.format.specs.declared.kinds.Kind.TheVariants.{Atoms, Rule, Clause, Load, Open, Claim, Defined, Also, Unknown}
 use Rattle.format.specs.Forms.{Form}
 use Rattle.format.specs.Views.{view_of, kind_in, kind_number, same_kind}
 use Rattle.format.proofs.ViewLaws.{same_kind_lem}
 use Rattle.judging.specs.declared.reached.Reached.{Reached}
 use Rattle.judging.specs.declared.reached.Space.{Space}
 use Rattle.judging.specs.States.{nothing_yet, open_stood, claim_stood, start, phase_after, advanced, after, counts_within, groups_reached, values_counted, levels_counted, fits}
-use Rattle.judging.proofs.LimitLaws.{size_limit}
-use Rattle.judging.specs.Judging.{atom_bound, numbers_within, within_limits, in_order, on, stop, judge_form, max_bytes}
+use Rattle.judging.proofs.LimitLaws.{size_limit, group_limit}
+use Rattle.judging.specs.Judging.{atom_bound, numbers_within, within_limits, in_order, on, stop, judge_form}
 
 -- Before the first line all counts are within the limits.
 pub start_limits : counts_within start ≡ true
@@ -36,6 +37,14 @@ after_size s f l t = step (same_kind (kind_in f) Atoms)
   where
     step : (named : Bool) → cond named (view_of f).size s.size ≤ max_atoms
     step true = size_limit s f (first _ _ t)
+    step false = l
+
+pub after_group : (s : Reached) (f : Form) → s.group ≤ max_group → within_limits s f ≡ true → (after s f).group ≤ max_group
+unfolding after advanced within_limits
+after_group s f l t = step (same_kind (kind_in f) Also)
+  where
+    step : (told : Bool) → cond told (view_of f).group s.group ≤ max_group
+    step true = group_limit s f (first _ _ t)
     step false = l
 
 -- Named atoms have a bound within the limits of a book.
@@ -77,19 +86,24 @@ module _ (s : Reached) where
   unfolding levels_counted
   levels_few = all_or_none (leb claim_stood s.phase) (s.size * groups_reached s)
 
--- There is a group at least, and there are no more than a text has bytes.
-pub groups_some : (s : Reached) → (1 ≤ groups_reached s) × (groups_reached s ≤ max_bytes)
+-- There is a group at least, and there are no more than a book may have.
+pub groups_some : (s : Reached) → s.group ≤ max_group → (1 ≤ groups_reached s) × (groups_reached s ≤ max_groups)
 unfolding groups_reached
-groups_some s = (omega arith, omega arith)
+groups_some s l = (omega arith, omega arith)
+
+-- Levels for each atom in each group are no more than a full table holds.
+pub levels_most : (s : Reached) → s.size ≤ max_atoms → s.group ≤ max_group → s.size * groups_reached s ≤ max_atoms * max_groups
+unfolding groups_reached
+levels_most s l g = mul-le-mul l (groups_some s g).1
 
 -- A claim leaves the groups as they are.
-pub groups_claim : (s : Reached) (n literals terms : ℕ) → groups_reached (advanced s Claim n literals terms) ≡ groups_reached s
-unfolding groups_reached
-groups_claim s n literals terms = refl
+pub groups_claim : (s : Reached) (n group literals terms : ℕ) → groups_reached (advanced s Claim n group literals terms) ≡ groups_reached s
+unfolding groups_reached advanced same_kind kind_number
+groups_claim s n group literals terms = refl
 
 pub groups_after : (s : Reached) (f : Form) → same_kind (kind_in f) Claim ≡ true → groups_reached (after s f) ≡ groups_reached s
 unfolding after
-groups_after s f e = rw (same_kind_lem (kind_in f) Claim e) (groups_claim s _ _ _)
+groups_after s f e = rw (same_kind_lem (kind_in f) Claim e) (groups_claim s _ _ _ _)
 
 -- A form that tells a state counts a value for each atom, and a claim a level for each atom in each group; after other forms there are none.
 kind_counts :
@@ -104,6 +118,7 @@ kind_counts Load n size before after same = (refl, refl)
 kind_counts Open n size before after same = (refl, refl)
 kind_counts Claim n size before after same = (refl, rw (same refl))
 kind_counts Defined n size before after same = (refl, refl)
+kind_counts Also n size before after same = (refl, refl)
 kind_counts Unknown n size before after same = (refl, refl)
 
 module _ (s : Reached) (f : Form) where

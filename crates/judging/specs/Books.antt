@@ -1,11 +1,11 @@
 -- Which texts are accepted, said of the whole text at once; and what a refusal says.
-use Rattle.std.specs.Prelude.{ℕ, ◌≤◌, ◌<◌, ◌≡◌, Bool, true, false, ◌&&◌, ◌||◌, List, [], ◌∷◌, ◌++◌, length}
+use Rattle.std.specs.Prelude.{ℕ, suc, ◌≤◌, ◌<◌, ◌≡◌, Bool, true, false, ◌&&◌, ◌||◌, List, [], ◌∷◌, ◌++◌, map, length, get_or}
 use Rattle.wellfounded.specs.Lists.{all}
 use Rattle.tables.specs.declared.Fault.{Fault}
 use Rattle.tables.specs.declared.Fault.TheVariants.{Malformed, OutsideLimits, OutOfOrder}
-use Rattle.format.specs.declared.kinds.Kind.TheVariants.{Atoms, Rule, Clause, Load, Open, Claim, Defined}
+use Rattle.format.specs.declared.kinds.Kind.TheVariants.{Atoms, Rule, Clause, Load, Open, Claim, Defined, Also}
 use Rattle.format.specs.Forms.{Form, line_end, render, render_all}
-use Rattle.format.specs.Views.{of_kind}
+use Rattle.format.specs.Views.{view_of, of_kind}
 use Rattle.judging.specs.declared.reached.Reached.{Reached}
 use Rattle.judging.specs.declared.reached.Space.{Space}
 use Rattle.judging.specs.LentTables.{Table, full_size, room_in}
@@ -21,12 +21,17 @@ after_all s (f ∷ fs) = after_all (after s f) fs
 unfoldable pub is_state : Form → Bool
 is_state f = of_kind Open f || of_kind Claim f
 
--- The sequence of a book: its atoms, then at most one defined form, then rules, clauses and load lines, any number of each, and one state form at
--- the end.
+-- The groups that also forms name, in order.
+unfoldable pub groups_named : List Form → List ℕ
+groups_named fs = map (λ (f : Form). (view_of f).group) fs
+
+-- The sequence of a book: its atoms, then at most one defined form, then rules, also forms, clauses and load lines, any number of each, and one
+-- state form at the end. From each also form to the next the group does not fall.
 pub record InSequence (fs : List Form) : Type 0 where
   pub atoms : Form
   pub defined : List Form
   pub rules : List Form
+  pub also : List Form
   pub clauses : List Form
   pub loads : List Form
   pub state : Form
@@ -34,10 +39,12 @@ pub record InSequence (fs : List Form) : Type 0 where
   pub are_defined : all (of_kind Defined) defined ≡ true
   pub one_defined : length defined ≤ 1
   pub are_rules : all (of_kind Rule) rules ≡ true
+  pub are_also : all (of_kind Also) also ≡ true
+  pub never_fall : (i : ℕ) → suc i < length also → get_or (groups_named also) i 0 ≤ get_or (groups_named also) (suc i) 0
   pub are_clauses : all (of_kind Clause) clauses ≡ true
   pub are_loads : all (of_kind Load) loads ≡ true
   pub tells_state : is_state state ≡ true
-  pub whole : fs ≡ atoms ∷ (defined ++ (rules ++ (clauses ++ (loads ++ (state ∷ [])))))
+  pub whole : fs ≡ atoms ∷ (defined ++ (rules ++ (also ++ (clauses ++ (loads ++ (state ∷ []))))))
 
 -- Forms that are a book which the lent tables hold. Levels, numbers and parts are tested in the state that is reached at the end; of it these
 -- tests look only at the number of groups, at N and at whether an atoms line stood.

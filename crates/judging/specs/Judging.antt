@@ -3,9 +3,9 @@ use Rattle.std.specs.Prelude.{ℕ, suc, ◌+◌, Bool, true, false, cond, ◌&&�
 use Rattle.wellfounded.specs.Lists.{all}
 use Rattle.tables.specs.declared.Fault.{Fault}
 use Rattle.tables.specs.declared.Fault.TheVariants.{Malformed, OutsideLimits, OutOfOrder, NoSpace}
-use Rattle.tables.specs.Limits.{max_atoms, max_minutes, max_bound, max_value, max_level}
+use Rattle.tables.specs.Limits.{max_atoms, max_group, max_minutes, max_bound, max_value, max_level}
 use Rattle.format.specs.declared.kinds.Kind.{Kind}
-use Rattle.format.specs.declared.kinds.Kind.TheVariants.{Atoms, Rule, Clause, Load, Open, Claim, Defined, Unknown}
+use Rattle.format.specs.declared.kinds.Kind.TheVariants.{Atoms, Rule, Clause, Load, Open, Claim, Defined, Also, Unknown}
 use Rattle.format.specs.Forms.{LiteralText, TermText, PairText, Form, line_end}
 use Rattle.format.specs.Views.{view_of, kind_in, of_kind}
 use Rattle.format.specs.Parse.{Reading, got, refused, parse}
@@ -13,7 +13,7 @@ use Rattle.judging.specs.declared.reached.Reached.{Reached}
 use Rattle.judging.specs.declared.reached.Space.{Space}
 use Rattle.judging.specs.declared.reached.Judged.{Judged}
 use Rattle.judging.specs.declared.reached.Judged.TheVariants.{Passed, Failed}
-use Rattle.judging.specs.States.{nothing_yet, atoms_stood, in_rules, in_clauses, in_loads, open_stood, start, after, counts_within, groups_reached, fits}
+use Rattle.judging.specs.States.{nothing_yet, atoms_stood, in_rules, in_also, in_clauses, in_loads, open_stood, start, after, counts_within, groups_reached, fits}
 
 -- 2: numbers and counts within their limits. Atoms of heads and literals are judged against the largest book, not against N.
 unfoldable pub literal_within : LiteralText → Bool
@@ -28,6 +28,14 @@ pair_within p = leb p.value max_value && all (λ level. leb level max_level) p.l
 unfoldable pub bound_within : ℤ → Bool
 bound_within bound = leb (nat_abs bound) max_bound
 
+-- Whether a number lies between two others, or is one of them.
+unfoldable pub between : ℕ → ℕ → ℕ → Bool
+between first last n = leb first n && leb n last
+
+-- An also form names a group beside group 0.
+unfoldable pub group_within : Form → Bool
+group_within f = cond (of_kind Also f) (between 1 max_group (view_of f).group) true
+
 -- The atoms that an open or a defined form names lie below N, and before an atoms line below the most atoms that a book has.
 unfoldable pub atom_bound : Reached → ℕ
 atom_bound s = cond (eqb s.phase nothing_yet) max_atoms s.size
@@ -36,17 +44,15 @@ atom_bound s = cond (eqb s.phase nothing_yet) max_atoms s.size
 unfoldable pub numbers_within : Reached → Form → Bool
 numbers_within s f =
     let v = view_of f in
-    leb v.size max_atoms && all (λ atom. ltb atom (atom_bound s)) v.atoms && ltb v.head max_atoms && bound_within v.low
-    && bound_within v.high && all literal_within v.literals && all term_within v.terms && all pair_within v.pairs
+    leb v.size max_atoms && all (λ atom. ltb atom (atom_bound s)) v.atoms && group_within f && ltb v.head max_atoms
+    && bound_within v.low && bound_within v.high && all literal_within v.literals && all term_within v.terms && all pair_within v.pairs
     && leb (length v.pairs) max_atoms
 
 unfoldable pub within_limits : Reached → Form → Bool
 within_limits s f = numbers_within s f && counts_within (after s f)
 
--- 3: each kind of form may follow in some phases; the atoms that a form names rise strictly, and there is a claim pair for each atom.
-unfoldable pub between : ℕ → ℕ → ℕ → Bool
-between first last phase = leb first phase && leb phase last
-
+-- 3: each kind of form may follow in some phases; the groups of also forms never fall; the atoms that a form names rise strictly, and there is a
+-- claim pair for each atom.
 unfoldable pub may_follow : Kind → ℕ → Bool
 may_follow Atoms phase = eqb phase nothing_yet
 may_follow Rule phase = between atoms_stood in_rules phase
@@ -55,7 +61,11 @@ may_follow Load phase = between atoms_stood in_loads phase
 may_follow Open phase = between atoms_stood in_loads phase
 may_follow Claim phase = between atoms_stood in_loads phase
 may_follow Defined phase = eqb phase atoms_stood
+may_follow Also phase = between atoms_stood in_also phase
 may_follow Unknown phase = false
+
+unfoldable pub not_falling : Reached → Form → Bool
+not_falling s f = cond (of_kind Also f) (leb s.group (view_of f).group) true
 
 unfoldable pub rises_from : ℕ → List ℕ → Bool
 rises_from floor [] = true
@@ -65,7 +75,7 @@ unfoldable pub parts_in_order : Reached → Form → Bool
 parts_in_order s f = rises_from 0 (view_of f).atoms && cond (of_kind Claim f) (eqb (length (view_of f).pairs) s.size) true
 
 unfoldable pub in_order : Reached → Form → Bool
-in_order s f = may_follow (kind_in f) s.phase && parts_in_order s f
+in_order s f = may_follow (kind_in f) s.phase && (not_falling s f && parts_in_order s f)
 
 -- What a line comes to: the state after it, or a fault.
 pub data Step : Type 0 where

@@ -1,6 +1,6 @@
 -- The tables that a book is read into, by name, and their sizes.
 use Rattle.std.specs.Prelude.{ℕ, ◌*◌, Bool, ◌&&◌}
-use Rattle.tables.specs.Limits.{max_atoms, max_rule_rows, max_clause_rows, max_literals, max_load_rows, max_terms}
+use Rattle.tables.specs.Limits.{max_atoms, max_groups, max_rule_rows, max_clause_rows, max_literals, max_load_rows, max_terms}
 use Rattle.tables.specs.Rows.{rule_width, clause_width}
 use Rattle.tables.specs.Loads.{load_width}
 use Rattle.judging.specs.declared.reached.Space.{Space}
@@ -47,7 +47,7 @@ space_with size =
       levels = size Levels;
     }
 
--- How many entries a table has that holds every book.
+-- How many entries a table has that holds every book; levels are told for each atom in each group.
 unfoldable pub full_size : Table → ℕ
 full_size Rules = max_rule_rows * rule_width
 full_size Literals = max_literals
@@ -57,4 +57,4 @@ full_size LoadLiterals = max_terms
 full_size Minutes = max_terms
 full_size Marks = max_atoms
 full_size Values = max_atoms
-full_size Levels = max_atoms
+full_size Levels = max_atoms * max_groups

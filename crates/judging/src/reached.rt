@@ -1,6 +1,7 @@
 // The state that the lines read so far have reached, and how a line is judged in it.
 ghost use Rattle.std.specs.Prelude.{◌≡◌, ◌*◌, ◌≤◌};
-ghost use Rattle.format.specs.declared.kinds.Kind.TheVariants.{Rule, Clause, Load};
+ghost use Rattle.tables.specs.Limits.{max_atoms, max_group};
+ghost use Rattle.format.specs.declared.kinds.Kind.TheVariants.{Rule, Clause, Load, Also};
 ghost use Rattle.judging.specs.States.{start, groups_reached};
 ghost use Rattle.judging.specs.Judging.{between, may_follow, max_bytes};
 ghost use Rattle.judging.specs.internal.Shapes.{added, order_of, judge_shape, as_move, CountsFit, CountedAs};
@@ -13,27 +14,30 @@ use tables::sizes::{
     MAX_CLAUSE_ENTRIES, MAX_LITERALS, MAX_LOAD_ENTRIES, MAX_RULE_ENTRIES, MAX_TERMS,
 };
 
-// The phases of a text: nothing was read yet; the atoms form was read last; the defined form or rules were, or clauses, or load lines; an open form
-// or a claim stood.
+// The phases of a text: nothing was read yet; the atoms form was read last; the defined form or rules were, or also forms, or clauses, or load
+// lines; an open form or a claim stood.
 pub const NOTHING_YET: usize = 0;
 
 pub const ATOMS_STOOD: usize = 1;
 
 pub const IN_RULES: usize = 2;
 
-pub const IN_CLAUSES: usize = 3;
+pub const IN_ALSO: usize = 3;
 
-pub const IN_LOADS: usize = 4;
+pub const IN_CLAUSES: usize = 4;
 
-pub const OPEN_STOOD: usize = 5;
+pub const IN_LOADS: usize = 5;
 
-pub const CLAIM_STOOD: usize = 6;
+pub const OPEN_STOOD: usize = 6;
 
-// The phase of the text, the number of atoms, and the entries counted for each table that grows from line to line.
+pub const CLAIM_STOOD: usize = 7;
+
+// The phase of the text, the number of atoms, the group of the last also form, and the entries counted for each table that grows from line to line.
 #[derive(Drop)]
 pub struct Reached {
     pub phase: usize,
     pub size: usize,
+    pub group: usize,
     pub rules: usize,
     pub literals: usize,
     pub clauses: usize,
@@ -55,12 +59,12 @@ pub struct Space {
     pub levels: usize,
 }
 
-// What judging needs of a form: its kind, the number of atoms that it names, how many parts it lists, whether its numbers
-// are within their limits, and whether its atoms rise.
+// What judging needs of a form: its kind, the number of atoms or the group that it names, how many parts it lists, whether
+// its numbers are within their limits, and whether its atoms rise.
 #[derive(Drop)]
 pub struct Shape {
     pub kind: Kind,
-    pub size: usize,
+    pub number: usize,
     pub parts: usize,
     pub within: bool,
     pub rising: bool,
@@ -87,6 +91,7 @@ pub fn start() -> Reached
     Reached {
         phase: NOTHING_YET,
         size: 0,
+        group: 0,
         rules: 0,
         literals: 0,
         clauses: 0,
@@ -97,13 +102,15 @@ pub fn start() -> Reached
 
 // How many groups of rules there are.
 pub fn groups_reached(reached: Reached) -> usize
+    requires { reached.group ≤ max_group }
     ensures { result ≡ groups_reached reached }
 {
-    1
+    reached.group + 1
 }
 
 // How many levels a claim tells: one for each atom in each group.
 fn levels_told(reached: Reached) -> usize
+    requires { (reached.size ≤ max_atoms) × (reached.group ≤ max_group) }
     ensures { result ≡ reached.size * groups_reached reached }
 {
     reached.size * groups_reached(reached)
@@ -130,6 +137,22 @@ fn count_rule(space: Space, reached: Reached, parts: usize) -> Counted
         then,
         within: (then.rules <= MAX_RULE_ENTRIES) & (then.literals <= MAX_LITERALS),
         fits: (then.rules <= space.rules) & (then.literals <= space.literals),
+    }
+}
+
+// Counts an also form: it is a rule, in a phase of its own and of a group.
+fn count_also(space: Space, reached: Reached, group: usize, parts: usize) -> Counted
+    requires { CountsFit space reached × (parts ≤ max_bytes) }
+    ensures { CountedAs space (added reached Also group parts) result }
+{
+    let counts = count_rule(space, reached, parts);
+    let mut then = counts.then;
+    then.phase = IN_ALSO;
+    then.group = group;
+    Counted {
+        then,
+        within: counts.within,
+        fits: counts.fits,
     }
 }
 
@@ -167,17 +190,17 @@ fn count_load(space: Space, reached: Reached, parts: usize) -> Counted
     }
 }
 
-// Counts a form of some kind: `size` is the number of atoms that it names, `parts` how many parts it lists.
-fn count(space: Space, reached: Reached, kind: Kind, size: usize, parts: usize) -> Counted
+// Counts a form of some kind: `number` is the number of atoms or the group that it names, `parts` how many parts it lists.
+fn count(space: Space, reached: Reached, kind: Kind, number: usize, parts: usize) -> Counted
     requires { CountsFit space reached × (parts ≤ max_bytes) }
-    ensures { CountedAs space (added reached kind size parts) result }
+    ensures { CountedAs space (added reached kind number parts) result }
 {
     let mut then = reached;
     let mut fits = true;
     match kind {
         Kind::Atoms => {
             then.phase = ATOMS_STOOD;
-            then.size = size;
+            then.size = number;
         }
         Kind::Rule => {
             return count_rule(space, reached, parts);
@@ -200,6 +223,9 @@ fn count(space: Space, reached: Reached, kind: Kind, size: usize, parts: usize) 
         }
         Kind::Defined => {
             then.phase = IN_RULES;
+        }
+        Kind::Also => {
+            return count_also(space, reached, number, parts);
         }
         Kind::Unknown => {
             then.phase = NOTHING_YET;
@@ -231,16 +257,18 @@ fn may_follow(kind: Kind, phase: usize) -> bool
         Kind::Open => between(ATOMS_STOOD, IN_LOADS, phase),
         Kind::Claim => between(ATOMS_STOOD, IN_LOADS, phase),
         Kind::Defined => phase == ATOMS_STOOD,
+        Kind::Also => between(ATOMS_STOOD, IN_ALSO, phase),
         Kind::Unknown => false,
     }
 }
 
-// Whether a form's parts are in order: named atoms rise, and there is a claim pair for each atom.
-fn parts_in_order(reached: Reached, kind: Kind, parts: usize, rising: bool) -> bool
-    ensures { result ≡ order_of reached kind parts rising }
+// Whether a form's group and parts are in order: groups never fall, named atoms rise, and there is a claim pair for each atom.
+fn parts_in_order(reached: Reached, kind: Kind, number: usize, parts: usize, rising: bool) -> bool
+    ensures { result ≡ order_of reached kind number parts rising }
 {
     match kind {
         Kind::Claim => rising & (parts == reached.size),
+        Kind::Also => (reached.group <= number) & rising,
         _ => rising,
     }
 }
@@ -251,12 +279,12 @@ pub fn judge_shape(space: Space, reached: Reached, shape: Shape, next: usize) ->
     ensures { result ≡ as_move next (judge_shape space reached shape) }
 {
     let kind = shape.kind;
-    let counts = count(space, reached, kind, shape.size, shape.parts);
+    let counts = count(space, reached, kind, shape.number, shape.parts);
     if !(shape.within & counts.within) {
         return Move::Stop(Fault::OutsideLimits);
     }
     if !(may_follow(kind, reached.phase)
-        & parts_in_order(reached, kind, shape.parts, shape.rising))
+        & parts_in_order(reached, kind, shape.number, shape.parts, shape.rising))
     {
         return Move::Stop(Fault::OutOfOrder);
     }

@@ -96,7 +96,7 @@ module _ {s : Reached} {text : List ℕ} {at : ℕ} {line : Line} {written : For
   unfolding formed shape_of
   judgeable fitting =
       record {
-        fitted = record { limits = ready.counts; fitting = fitting };
+        fitted = record { atoms = ready.atoms; groups = ready.groups; limits = ready.counts; fitting = fitting };
         few = λ shape next e. step shape next (if_levelled s (read_form (drop at text))) refl (sym read.answered ∙ e);
       }
     where

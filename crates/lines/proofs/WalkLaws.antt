@@ -24,7 +24,7 @@ use Rattle.judging.specs.Judging.{lines, Step, on, stop, judge_form, levelled, i
 use Rattle.judging.specs.internal.Shapes.{as_move}
 use Rattle.judging.proofs.LineLaws.{levelled_got, line_formed, judge_line_lem, judge_refused, forms_line}
 use Rattle.judging.proofs.Counts.{start_fits}
-use Rattle.judging.proofs.StateLaws.{start_limits, after_counts, after_size, judge_on}
+use Rattle.judging.proofs.StateLaws.{start_limits, after_counts, after_size, after_group, judge_on}
 use Rattle.forms.specs.Contents.{Contents}
 use Rattle.forms.specs.Entries.{entries_of}
 use Rattle.forms.specs.internal.Stores.{store, store_forms}
@@ -54,7 +54,7 @@ unfolding judge_text forms_of start
 walk_start text space before s l e =
     rw e
     record {
-      ready = record { inside = record { reached = omega arith; short = l }; counts = start_limits; atoms = omega arith };
+      ready = record { inside = record { reached = omega arith; short = l }; counts = start_limits; atoms = omega arith; groups = omega arith };
       fitting = start_fits space;
       judged = rw (le-leb (length text) max_bytes l);
       stored = refl;
@@ -109,6 +109,7 @@ module _ {text : List ℕ} {space : Space} {before : Contents} {s : Reached} {at
               inside = record { reached = omega arith; short = w.ready.inside.short };
               counts = after_counts s f k.0;
               atoms = after_size s f w.ready.atoms k.0;
+              groups = after_group s f w.ready.groups k.0;
             };
             fitting = rw k.3 k.2;
             judged = rw (after_line.1, after_line.0) (sym (judged_on e) ∙ w.judged);

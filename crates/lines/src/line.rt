@@ -11,8 +11,8 @@ ghost use Rattle.lines.specs.internal.Walks.{Ready, Judgeable, line_move};
 use format::kinds::{Kind, kind_at};
 use format::words::byte_at;
 use forms::{
-    Line, read_atoms_form, read_claim_form, read_clause_form, read_defined_form, read_load_form,
-    read_open_form, read_rule_form,
+    Line, read_also_form, read_atoms_form, read_claim_form, read_clause_form, read_defined_form,
+    read_load_form, read_open_form, read_rule_form,
 };
 use judging::reached::{Move, Reached, Space, judge_shape};
 use tables::Fault;
@@ -48,6 +48,7 @@ pub fn read_form(
         Kind::Open => read_open_form(text, at + 5, reached, values),
         Kind::Claim => read_claim_form(text, at + 6, reached, values, levels),
         Kind::Defined => read_defined_form(text, at + 8, reached, marks),
+        Kind::Also => read_also_form(text, at + 5, reached, rules, literals),
         Kind::Unknown => Line::NoForm,
     }
 }

@@ -62,20 +62,19 @@ put table after place entry e l = e ∙ sym (stored_small table place entry (lt-
 module _ (entry first second : List ℕ) (place start count : ℕ) where
   -- The stores of a clause row, one after the other.
   pub clause_row_lem :
-      first ≡ stored (ltb start 65536) entry place start → second ≡ stored (ltb count 65536) first (place + 1) count → start < 65536 →
-      count < 65536 →
-      second ≡ sets entry place (start ∷ count ∷ [])
-  clause_row_lem p q ls lc = rw (put _ _ _ _ q lc, put _ _ _ _ p ls, add-one)
+      first ≡ set entry place start → second ≡ set first (place + 1) count → second ≡ sets entry place (start ∷ count ∷ [])
+  clause_row_lem p q = rw (q, p, add-one)
 
   -- Those of a rule row.
   pub rule_row_lem :
-      (third : List ℕ) (head : ℕ) → first ≡ stored (ltb head 65536) entry place head →
-      second ≡ stored (ltb start 65536) first (place + 1) start →
-      third ≡ stored (ltb count 65536) second (place + 2) count → head < 65536 → start < 65536 → count < 65536 →
-      third ≡ sets entry place (head ∷ start ∷ count ∷ [])
-  rule_row_lem third head p q r lh ls lc =
+      (third fourth : List ℕ) (head group : ℕ) → first ≡ stored (ltb head 65536) entry place head →
+      second ≡ set first (place + 1) start → third ≡ set second (place + 2) count →
+      fourth ≡ stored (ltb group 65536) third (place + 3) group → head < 65536 → group < 65536 →
+      fourth ≡ sets entry place (head ∷ start ∷ count ∷ group ∷ [])
+  rule_row_lem third fourth head group p q r s lh lg =
       let e : place + 2 ≡ suc (suc place) = omega arith in
-      rw (put _ _ _ _ r lc, put _ _ _ _ q ls, put _ _ _ _ p lh, add-one, e)
+      let f : place + 3 ≡ suc (suc (suc place)) = omega arith in
+      rw (put _ _ _ _ s lg, r, q, put _ _ _ _ p lh, add-one, e, f)
 
 -- Those of a load row. Code reads its numbers back from their bits.
 pub load_row_lem :

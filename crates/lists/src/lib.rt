@@ -2,11 +2,11 @@
 ghost use Rattle.std.specs.Prelude.{◌≡◌, true, ℕ, ◌*◌, ◌≤◌, List, map, ltb, length, drop};
 ghost use Rattle.std.proofs.lemmas.List.Edits.{sets};
 ghost use Rattle.wellfounded.specs.Lists.{all};
-ghost use Rattle.tables.specs.Limits.{max_atoms, max_literals, max_terms};
+ghost use Rattle.tables.specs.Limits.{max_atoms, max_groups, max_literals, max_terms};
 ghost use Rattle.format.specs.Forms.{TermText, PairText};
 ghost use Rattle.format.specs.Parse.{read_number, read_literal, read_term, read_pair, parts};
 ghost use Rattle.items.specs.Items.{literal_code, level_in, level_columns};
-ghost use Rattle.judging.specs.Judging.{literal_within, term_within, pair_within, levels_for, max_bytes};
+ghost use Rattle.judging.specs.Judging.{literal_within, term_within, pair_within, levels_for};
 ghost use Rattle.judging.specs.internal.Shapes.{capped_rise};
 ghost use Rattle.lists.specs.internal.Lists.{Inside, Laid, Lists, marked};
 
@@ -156,7 +156,7 @@ fn read_values(
 // The levels of a claim's pairs in one group, stored from a place on.
 fn read_column(text: &[u8], at: usize, group: usize, levels: &mut [u16], from: usize)
     requires inside { Inside text.now at }
-    requires from_bound { from ≤ max_bytes * max_atoms }
+    requires from_bound { from ≤ max_groups * max_atoms }
     ensures { Laid pair_within (parts read_pair (drop at text.now))
         (λ ps. levels.new ≡ sets levels.old from (map (level_in group) ps)) }
 {
@@ -175,7 +175,7 @@ fn read_column(text: &[u8], at: usize, group: usize, levels: &mut [u16], from: u
 // The levels of a claim's pairs in every group but the first, each group's behind those of the group before it.
 fn read_columns(text: &[u8], at: usize, groups: usize, size: usize, levels: &mut [u16])
     requires inside { Inside text.now at }
-    requires le_groups { (1 ≤ groups) × (groups ≤ max_bytes) × (size ≤ max_atoms) }
+    requires le_groups { (1 ≤ groups) × (groups ≤ max_groups) × (size ≤ max_atoms) }
     ensures { Laid pair_within (parts read_pair (drop at text.now)) (λ ps. length ps ≡ size →
         (before : List ℕ) → levels.old ≡ sets before 0 (level_columns 1 ps) →
         levels.new ≡ sets before 0 (level_columns groups ps)) }
@@ -199,7 +199,7 @@ pub fn read_pairs(
     levels: &mut [u16],
 ) -> Parts
     requires inside { Inside text.now at }
-    requires le_groups { (1 ≤ groups) × (groups ≤ max_bytes) × (size ≤ max_atoms) }
+    requires le_groups { (1 ≤ groups) × (groups ≤ max_groups) × (size ≤ max_atoms) }
     ensures { Lists text.now pair_within (all (levels_for groups)) (parts read_pair (drop at text.now)) result
         (λ ps. (values.new ≡ sets values.old 0 (map (λ (p : PairText). p.value) ps))
         × (length ps ≡ size → levels.new ≡ sets levels.old 0 (level_columns groups ps))) }

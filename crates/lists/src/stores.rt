@@ -24,6 +24,16 @@ pub fn store(table: &mut [u16], place: usize, entry: usize)
     }
 }
 
+// Stores an entry that has 16 bits.
+fn store_short(table: &mut [u16], place: usize, entry: usize)
+    requires { entry < 65536 }
+    ensures { table.new ≡ set table.old place entry }
+{
+    if place < table.len() {
+        table[place] = entry as u16;
+    }
+}
+
 // Stores a value.
 pub fn store_value(values: &mut [u8], place: usize, value: usize)
     ensures { values.new ≡ stored (ltb value (suc max_value)) values.old place value }
@@ -62,14 +72,23 @@ pub fn store_whole(loads: &mut [i32], place: usize, entry: i32)
     }
 }
 
-// Stores a rule row: head, start, count.
-pub fn store_rule(rules: &mut [u16], place: usize, head: usize, start: usize, count: usize)
+// Stores a rule row: head, start, count, group.
+pub fn store_rule(
+    rules: &mut [u16],
+    place: usize,
+    head: usize,
+    start: usize,
+    count: usize,
+    group: usize,
+)
     requires { (place ≤ max_rule_rows * rule_width) × (start < 65536) × (count < 65536) }
-    ensures { head < 65536 → rules.new ≡ sets rules.old place (head ∷ start ∷ count ∷ []) }
+    ensures { head < 65536 → group < 65536 →
+        rules.new ≡ sets rules.old place (head ∷ start ∷ count ∷ group ∷ []) }
 {
     store(rules, place, head);
-    store(rules, place + 1, start);
-    store(rules, place + 2, count);
+    store_short(rules, place + 1, start);
+    store_short(rules, place + 2, count);
+    store(rules, place + 3, group);
 }
 
 // Stores a clause row: start, count.
@@ -77,8 +96,8 @@ pub fn store_clause(clauses: &mut [u16], place: usize, start: usize, count: usiz
     requires { (place ≤ max_clause_rows * clause_width) × (start < 65536) × (count < 65536) }
     ensures { clauses.new ≡ sets clauses.old place (start ∷ count ∷ []) }
 {
-    store(clauses, place, start);
-    store(clauses, place + 1, count);
+    store_short(clauses, place, start);
+    store_short(clauses, place + 1, count);
 }
 
 // Stores a load row: LO, HI, start, count.

@@ -14,9 +14,9 @@ use Rattle.wellfounded.proofs.Tests.{clash}
 use Rattle.tables.specs.declared.Fault.{Fault}
 use Rattle.tables.specs.declared.Fault.TheVariants.{Mark}
 use Rattle.tables.specs.Faults.{fault_number, number_of, Test, first_fault}
-use Rattle.tables.specs.Sound.{Tables, lent, table_tests, Slice, slice_test, mark_count_test, mark_test, lent_tests, MarksFit}
+use Rattle.tables.specs.Sound.{Tables, lent, table_tests, Slice, other_group_test, one_group_tests, slice_test, mark_count_test, mark_test, lent_tests, lent_one_group_tests, MarksFit}
 use Rattle.tables.proofs.Faults.{refused_among, absent_dropped}
-use Rattle.tables.proofs.SoundTables.{lent_order, marks_fault}
+use Rattle.tables.proofs.SoundTables.{lent_order, slices_order, marks_fault}
 use Rattle.satisfaction.specs.Satisfied.{clause_test, load_test, satisfaction_tests}
 use Rattle.checker.specs.Check.{claim_tests, check_tests, check_of}
 use Rattle.checker.proofs.ClaimFaults.{claim_faults_lem}
@@ -59,16 +59,26 @@ marks_left_out t fit others later =
     ∙ (absent_dropped (table_tests t ++ (slice_test others ∷ [])) (mark_test t ∷ later) (mark_count_test t) none.0
     ∙ absent_dropped (table_tests t ++ (slice_test others ∷ [])) later (mark_test t) none.1)
 
+left_out_of_one :
+    (t : Tables) → MarksFit t → (others : List Slice) (later : List Test) →
+    first_fault (lent_one_group_tests t others ++ later) ≡ first_fault (one_group_tests t others ++ later)
+unfolding table_tests one_group_tests
+left_out_of_one t fit others later =
+    let none = (marks_fault t).1 fit in
+    ap first_fault (slices_order t others later)
+    ∙ (absent_dropped (one_group_tests t others) (mark_test t ∷ later) (mark_count_test t) none.0
+    ∙ absent_dropped (one_group_tests t others) later (mark_test t) none.1)
+
 -- of which none is about marks.
 abbrev other_fault : Fault → Bool
 other_fault fault = not (eqb (fault_number fault) 31)
 
 no_mark_test : (t : Tables) → MarksFit t → NeverGiven Mark t
-unfolding check_of check_tests refusal_tests table_tests slice_test setting_test model_tests undecided_test satisfaction_tests clause_test load_test all
+unfolding check_of check_tests refusal_tests one_group_tests table_tests other_group_test slice_test setting_test model_tests undecided_test satisfaction_tests clause_test load_test all
 no_mark_test t fit =
     record {
       check = λ values levels at e. false≢true (refused_among other_fault _ (claim_faults_lem other_fault refl t values levels) Mark at (sym (marks_left_out t fit _ (claim_tests t values levels)) ∙ e));
-      stops = λ given slices at e. false≢true (refused_among other_fault _ refl Mark at (sym (marks_left_out t fit slices _) ∙ e));
+      stops = λ given slices at e. false≢true (refused_among other_fault _ refl Mark at (sym (left_out_of_one t fit slices _) ∙ e));
       model = λ model at e. false≢true (refused_among other_fault (model_tests t model) refl Mark at e);
     }
 

@@ -13,7 +13,7 @@ use Rattle.tables.specs.declared.Fault.{Fault}
 use Rattle.tables.specs.declared.Fault.TheVariants.{NoSpace, TextSize, IndexSize}
 use Rattle.tables.specs.declared.Verdict.TheVariants.{Refused}
 use Rattle.tables.specs.Faults.{fault_number, number_of}
-use Rattle.tables.specs.Sound.{Tables, table_tests, slice_test, mark_count_test, mark_test, lent_tests}
+use Rattle.tables.specs.Sound.{Tables, table_tests, other_group_test, one_group_tests, slice_test, mark_count_test, mark_test, lent_tests, lent_one_group_tests}
 use Rattle.tables.proofs.Faults.{refused_among}
 use Rattle.satisfaction.specs.Satisfied.{clause_test, load_test, satisfaction_tests}
 use Rattle.checker.specs.Check.{check_tests, check_of}
@@ -35,7 +35,7 @@ abbrev other_fault : Fault → Bool
 other_fault fault = not (eqb (fault_number fault) 4 || (eqb (fault_number fault) 32 || eqb (fault_number fault) 33))
 
 no_such_test : (fault : Fault) → other_fault fault ≡ false → (t : Tables) → NeverGiven fault t
-unfolding check_of check_tests refusal_tests lent_tests table_tests slice_test mark_count_test mark_test setting_test model_tests undecided_test satisfaction_tests clause_test load_test all
+unfolding check_of check_tests refusal_tests lent_tests lent_one_group_tests one_group_tests table_tests other_group_test slice_test mark_count_test mark_test setting_test model_tests undecided_test satisfaction_tests clause_test load_test all
 no_such_test fault none t =
     record {
       check = λ values levels at e. clash (refused_among other_fault (check_tests t values levels) (claim_faults_lem other_fault refl t values levels) fault at e) none;

@@ -19,7 +19,7 @@ use Rattle.tables.specs.declared.Fault.{Fault}
 use Rattle.tables.specs.declared.Verdict.{Verdict}
 use Rattle.tables.specs.declared.Verdict.TheVariants.{Accepted, Refused}
 use Rattle.tables.specs.Faults.{first_fault}
-use Rattle.tables.specs.Limits.{max_atoms, max_literals, max_rule_rows}
+use Rattle.tables.specs.Limits.{max_atoms, max_group, max_groups, max_literals, max_rule_rows}
 use Rattle.tables.specs.Rows.{rule_count, literals_by_rule}
 use Rattle.tables.specs.Sound.{Tables, lent, book_of}
 use Rattle.checker.specs.Check.{check_of}
@@ -36,9 +36,9 @@ use Rattle.judging.specs.LentTables.{Table, Rules, Literals, Clauses, Loads, Loa
 use Rattle.judging.specs.States.{open_stood, claim_stood, count_in}
 use Rattle.judging.specs.Judging.{judge_text, forms_of}
 use Rattle.judging.proofs.TableLaws.{each_table}
-use Rattle.judging.proofs.StateLaws.{values_told, levels_told}
+use Rattle.judging.proofs.StateLaws.{values_told, levels_told, groups_some, levels_most}
 use Rattle.judging.proofs.Counts.{CountsWithin, counts_within_lem}
-use Rattle.judging.proofs.Accepted.{accepted_book, accepted_size}
+use Rattle.judging.proofs.Accepted.{accepted_book, accepted_size, accepted_group}
 use Rattle.forms.specs.Contents.{Contents, over, filled}
 use Rattle.forms.specs.Entries.{given_anew, book_entries}
 use Rattle.forms.proofs.OverLaws.{over_used, over_held, over_front}
@@ -186,7 +186,7 @@ module _ {values levels : List ℕ} {verdict : Verdict} {state : StateForm} {ato
       (lent book.atoms (take (book.rules - 0) (held Rules)) (take (book.literals - 0) (held Literals))
       (take (book.clauses - 0) (held Clauses)) (take (book.loads - 0) (held Loads)) (take (book.terms - 0) (held LoadLiterals))
       (take (book.terms - 0) (held Minutes)) (take (book.atoms - 0) (held Marks)))
-      (take (book.atoms - 0) (held Values)) (take (book.atoms - 0) (held Levels)) →
+      (take (book.atoms - 0) (held Values)) (take (book.atoms * book.groups - 0) (held Levels)) →
       (verdict ≡ checked) × (state ≡ ClaimState) × (atoms ≡ 0) × (rounds ≡ 0) →
       GivesOutcome
       (book_outcome book.verdict book.state book.atoms
@@ -217,30 +217,31 @@ pub record Read (text : List ℕ) (book : Book) (afterwards : Contents) : Type 0
   pub fit : FitsBook book afterwards
   pub comes : book_outcome book.verdict book.state book.atoms (used_parts book afterwards) ≡ outcome_of text
 
--- Tables of full size, as they were before, hold a mark, a value and a level for each atom of the largest book.
+-- Tables of full size, as they were before, hold a mark and a value for each atom of the largest book, and a level for each in each group.
 full_atoms :
     (before : Contents) → space_of before ≡ full_space →
-    (length (before Marks) ≡ max_atoms) × (length (before Values) ≡ max_atoms) × (length (before Levels) ≡ max_atoms)
+    (length (before Marks) ≡ max_atoms) × (length (before Values) ≡ max_atoms) × (length (before Levels) ≡ max_atoms * max_groups)
 unfolding space_of full_space space_with full_size
 full_atoms before e = (ap (λ (space : Space). space.marks) e, ap (λ (space : Space). space.values) e, ap (λ (space : Space). space.levels) e)
 
 passed_fits :
-    (s : Reached) (used before : Contents) → ((table : Table) → length (used table) ≡ count_in s table) → s.size ≤ max_atoms → CountsWithin s →
+    (s : Reached) (used before : Contents) → ((table : Table) → length (used table) ≡ count_in s table) → s.size ≤ max_atoms → s.group ≤ max_group → CountsWithin s →
     literals_by_rule (used_parts (answer_of (Passed s)) (filled used before) Rules) ≤ max_literals → space_of before ≡ full_space →
     FitsBook (answer_of (Passed s)) (filled used before)
 unfolding filled given_anew used_in answer_of
-passed_fits s used before counts few within few_literals full =
+passed_fits s used before counts few group within few_literals full =
     let long = full_atoms before full in
     let laid : (table : Table) → given_anew table ≡ false → used_in (answer_of (Passed s)) table ≤ length (over (used table) (before table)) =
     (λ table e. omega (arith, laid_used s used before counts table e, counts table, over_used (used table) (before table))) in
     record {
       few = few;
+      few_groups = (groups_some s group).1;
       few_rules = within.rules;
       few_literals = few_literals;
       each =
           each_table (λ table. used_in (answer_of (Passed s)) table ≤ length (over (used table) (before table))) (laid Rules refl) (laid Literals refl)
           (laid Clauses refl) (laid Loads refl) (laid LoadLiterals refl) (laid Minutes refl)
-          (omega (arith, over_held (used Marks) (before Marks))) (omega (arith, over_held (used Values) (before Values))) (omega (arith, over_held (used Levels) (before Levels)));
+          (omega (arith, over_held (used Marks) (before Marks))) (omega (arith, over_held (used Values) (before Values))) (omega (arith, levels_most s few group, over_held (used Levels) (before Levels)));
     }
 
 passed_read :
@@ -254,7 +255,7 @@ passed_read text before s full e =
     let within : CountsWithin s = rw found.2 (counts_within_lem _ found.1.book.counts) in
     record {
       fit =
-          passed_fits s (book_entries (forms_of text)) before counts (accepted_size full_space text s e) within
+          passed_fits s (book_entries (forms_of text)) before counts (accepted_size full_space text s e) (accepted_group full_space text s e) within
           (used_few_literals full_space text s e before) full;
       comes = rw e (used_outcome s (book_entries (forms_of text)) before counts);
     }
@@ -268,6 +269,7 @@ failed_read text before fault at e =
       fit =
           record {
             few = omega arith;
+            few_groups = omega arith;
             few_rules = omega arith;
             few_literals = unused_few_literals fault at before;
             each =

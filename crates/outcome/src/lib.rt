@@ -15,11 +15,14 @@ use judging::reached::Space;
 use lines::walk;
 use tables::rows::rule_count;
 use tables::sizes::{
-    MAX_ATOMS, MAX_CLAUSE_ENTRIES, MAX_LITERALS, MAX_LOAD_ENTRIES, MAX_RULE_ENTRIES, MAX_RULE_ROWS,
-    MAX_TERMS,
+    MAX_ATOMS, MAX_CLAUSE_ENTRIES, MAX_GROUPS, MAX_LITERALS, MAX_LOAD_ENTRIES, MAX_RULE_ENTRIES,
+    MAX_RULE_ROWS, MAX_TERMS,
 };
 use tables::totals::rules_total;
 use tables::{Fault, Verdict};
+
+// A level for each atom of the largest book in each group.
+const MAX_LEVELS: usize = MAX_ATOMS * MAX_GROUPS;
 
 // The verdict, the state form, for how many atoms values and levels were made, and the rounds.
 #[derive(Drop)]
@@ -180,6 +183,7 @@ fn book_outcome(
     let clause_entries = book.clauses;
     let load_entries = book.loads;
     let terms = book.terms;
+    let groups = book.groups;
     let verdict = book.verdict;
     let used_rules = &rules[0..rule_entries];
     let used_literals = &literals[0..literal_entries];
@@ -189,7 +193,8 @@ fn book_outcome(
     let used_minutes = &minutes[0..terms];
     let used_marks = &marks[0..atoms];
     let used_given = &given[0..atoms];
-    let used_levels = &given_levels[0..atoms];
+    let level_entries = atoms * groups;
+    let used_levels = &given_levels[0..level_entries];
     let state = book.state;
     match state {
         StateForm::NoState => verdict_alone(StateForm::NoState, verdict),
@@ -236,7 +241,7 @@ fn full_space() -> Space
         minutes: MAX_TERMS,
         marks: MAX_ATOMS,
         values: MAX_ATOMS,
-        levels: MAX_ATOMS,
+        levels: MAX_LEVELS,
     }
 }
 
@@ -256,7 +261,7 @@ pub fn outcome_of(text: &[u8], values: &mut [u8], levels: &mut [u16]) -> Outcome
     let mut minutes = [0i16; MAX_TERMS];
     let mut marks = [0u8; MAX_ATOMS];
     let mut given = [0u8; MAX_ATOMS];
-    let mut given_levels = [0u16; MAX_ATOMS];
+    let mut given_levels = [0u16; MAX_LEVELS];
     let judged = walk(
         text,
         full_space(),

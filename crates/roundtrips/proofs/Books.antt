@@ -1,9 +1,9 @@
 -- The forms of tables without a fault and of a claim are a book that tables hold which have the room.
 -- Assumes nothing.
 use Prim.Native.Nat.{ℕ, zero, suc, ◌+◌, ◌*◌, ◌%◌, ◌≤◌, ◌<◌}
-use mathlib.Core.Path.{◌≡◌, refl, sym, ap, ◌∙◌}
+use mathlib.Core.Path.{◌≡◌, refl, sym, ap, ap₂, ◌∙◌}
 use mathlib.Core.Bool.{Bool, true, false, ◌&&◌}
-use mathlib.Core.List.{List, [], ◌∷◌, ◌++◌, map, Memᴰ}
+use mathlib.Core.List.{List, [], ◌∷◌, ◌++◌, map, append_assoc, Memᴰ}
 use native.Mathlib.Omega.{arith}
 use lib.Dec.{eqb, leb, ltb}
 use lib.IntN.{ℤ, pos, nat_abs}
@@ -14,12 +14,14 @@ use Rattle.wellfounded.specs.Literals.{atom_of, body_at}
 use Rattle.wellfounded.specs.Definitions.{Rule}
 use Rattle.wellfounded.proofs.Tests.{both, first, second, neither}
 use Rattle.wellfounded.proofs.Lists.{all_make, member_entry, length_tabulate}
-use Rattle.tables.specs.Limits.{max_atoms, max_bound, max_minutes, max_value, max_level, max_literals, max_terms}
+use Rattle.tables.specs.Limits.{max_atoms, max_group, max_bound, max_minutes, max_value, max_level, max_literals, max_terms}
 use Rattle.tables.specs.Faults.{Test, Absent}
-use Rattle.tables.specs.Rows.{rule_width, clause_width, rule_count, rule_head, rule_start, rule_size, rule_body, rule_at, rules_of, clause_count, clause_at, clauses_of}
+use Rattle.tables.specs.Rows.{rule_width, rule_count, rule_head, rule_start, rule_size, rule_body, rule_at, rule_group, group_count, rows_of, rows_by_group}
+use Rattle.tables.specs.Rows.{clause_width, clause_count, clause_at, clauses_of}
 use Rattle.tables.specs.Loads.{Load, load_width, load_count, load_low, load_high, load_start, load_size, term_at, terms_at, load_at, loads_of}
 use Rattle.tables.specs.Sound.{Tables, table_tests, bad_literal, bad_term, Sizes, LoadRowFits, MarksFit}
-use Rattle.tables.proofs.SoundTables.{sound_sizes, sound_rules, sound_clauses, sound_loads, sound_load_rows, sound_minutes}
+use Rattle.tables.proofs.SoundTables.{sound_sizes, sound_rules, sound_clauses, sound_loads, sound_load_rows, sound_minutes, sound_groups}
+use Rattle.tables.proofs.RowOrder.{rows_all}
 use Rattle.format.specs.declared.kinds.Kind.{Kind}
 use Rattle.format.specs.declared.kinds.Kind.TheVariants as FormKind
 use Rattle.format.specs.Forms.{LiteralText, TermText, PairText, Form, atoms_form, claim_form}
@@ -28,32 +30,28 @@ use Rattle.judging.specs.declared.reached.Reached.{Reached}
 use Rattle.judging.specs.declared.reached.Space.{Space}
 use Rattle.judging.specs.LentTables.{Table, Rules, Literals, Clauses, Loads, LoadLiterals, Minutes, Marks, Values, Levels, room_in}
 use Rattle.judging.specs.States.{nothing_yet, claim_stood, start, groups_reached, count_in, values_counted, levels_counted, counts_within, fits}
-use Rattle.judging.specs.Judging.{literal_within, term_within, pair_within, bound_within, atom_bound, numbers_within, rises_from, parts_in_order, levels_for, levelled}
+use Rattle.judging.specs.Judging.{literal_within, term_within, pair_within, bound_within, atom_bound, between, group_within, numbers_within, rises_from, parts_in_order, levels_for, levelled}
 use Rattle.judging.specs.Books.{after_all, is_state, InSequence, IsBook}
 use Rattle.judging.proofs.TableLaws.{each_table}
 use Rattle.judging.proofs.StateLaws.{values_told, levels_told}
 use Rattle.judging.proofs.Counts.{CountsWithin, within_counts, each_fits}
-use Rattle.booktext.proofs.UsedLaws.{one_group_read, one_level}
-use Rattle.writing.specs.BookForms.{literal_text, term_text, rule_form_of, clause_form_of, load_form_of, marked_atoms, defined_forms, pairs_of, book_forms}
+use Rattle.writing.specs.BookForms.{literal_text, term_text, rule_form_of, row_form, clause_form_of, load_form_of, marked_atoms, defined_forms, pairs_of, book_forms}
 use Rattle.writing.specs.Writing.{literals_by_row, terms_by_row}
 use Rattle.roundtrips.specs.RoundTrips.{taken_in, Writable}
 use Rattle.roundtrips.proofs.ListTests.{all_tabulate, all_take, all_drop, all_parts, all_map, all_mapped, all_rows}
 use Rattle.roundtrips.proofs.Counted.{Counted, RowsLie, book_counted}
+use Rattle.roundtrips.proofs.GroupOrder.{higher_rows, rows_plain, rows_also, also_never_fall, forms_split}
 use Rattle.roundtrips.proofs.MarkedAtoms.{marked_rises, marked_below}
 
 -- ── The kinds of the forms ──
 
-pub rule_kind : (r : Rule) → of_kind FormKind.Rule (rule_form_of r) ≡ true
-unfolding of_kind view_of same_kind kind_number rule_form_of
-rule_kind r = refl
-
-pub clause_kind : (c : List ℕ) → of_kind FormKind.Clause (clause_form_of c) ≡ true
+pub clause_kind_lem : (c : List ℕ) → of_kind FormKind.Clause (clause_form_of c) ≡ true
 unfolding of_kind view_of same_kind kind_number clause_form_of
-clause_kind c = refl
+clause_kind_lem c = refl
 
-pub load_kind : (l : Load) → of_kind FormKind.Load (load_form_of l) ≡ true
+pub load_kind_lem : (l : Load) → of_kind FormKind.Load (load_form_of l) ≡ true
 unfolding of_kind view_of same_kind kind_number load_form_of
-load_kind l = refl
+load_kind_lem l = refl
 
 pub defined_kinds : (atoms : List ℕ) → (all (of_kind FormKind.Defined) (defined_forms atoms) ≡ true) × (length (defined_forms atoms) ≤ 1)
 unfolding all of_kind view_of same_kind kind_number defined_forms
@@ -66,55 +64,69 @@ book_sequence t values levels =
     record {
       atoms = atoms_form t.atoms;
       defined = defined_forms (marked_atoms t.atoms t.marks);
-      rules = map rule_form_of (rules_of t.rules t.literals);
+      rules = map (row_form t.rules t.literals) (rows_of t.rules 0);
+      also = map (row_form t.rules t.literals) (higher_rows t.rules);
       clauses = map clause_form_of (clauses_of t.clauses t.literals);
       loads = map load_form_of (loads_of t.loads t.load_literals t.minutes);
-      state = claim_form (pairs_of t.atoms 1 values levels);
+      state = claim_form (pairs_of t.atoms (group_count t.rules) values levels);
       are_atoms = refl;
       are_defined = (defined_kinds (marked_atoms t.atoms t.marks)).0;
       one_defined = (defined_kinds (marked_atoms t.atoms t.marks)).1;
-      are_rules = all_mapped (of_kind FormKind.Rule) rule_form_of rule_kind (rules_of t.rules t.literals);
-      are_clauses = all_mapped (of_kind FormKind.Clause) clause_form_of clause_kind (clauses_of t.clauses t.literals);
-      are_loads = all_mapped (of_kind FormKind.Load) load_form_of load_kind (loads_of t.loads t.load_literals t.minutes);
+      are_rules = rows_plain t.rules t.literals;
+      are_also = rows_also t.rules t.literals;
+      never_fall = also_never_fall t.rules t.literals;
+      are_clauses = all_mapped (of_kind FormKind.Clause) clause_form_of clause_kind_lem (clauses_of t.clauses t.literals);
+      are_loads = all_mapped (of_kind FormKind.Load) load_form_of load_kind_lem (loads_of t.loads t.load_literals t.minutes);
       tells_state = refl;
-      whole = refl;
+      whole =
+          ap (λ (rules : List Form).
+          atoms_form t.atoms
+          ∷ (defined_forms (marked_atoms t.atoms t.marks)
+          ++ (rules ++ (map clause_form_of (clauses_of t.clauses t.literals) ++ (map load_form_of (loads_of t.loads t.load_literals t.minutes)
+          ++ (claim_form (pairs_of t.atoms (group_count t.rules) values levels) ∷ [])))))) (forms_split t.rules t.literals)
+          ∙ ap (λ (later : List Form). atoms_form t.atoms ∷ (defined_forms (marked_atoms t.atoms t.marks) ++ later))
+          (append_assoc (map (row_form t.rules t.literals) (rows_of t.rules 0)) (map (row_form t.rules t.literals) (higher_rows t.rules)) _);
     }
 
 -- ── Numbers of single forms, within their limits in any state ──
 
 atoms_within : (s : Reached) (n : ℕ) → n ≤ max_atoms → numbers_within s (atoms_form n) ≡ true
-unfolding numbers_within view_of bound_within all
+unfolding numbers_within group_within of_kind same_kind kind_number view_of bound_within all
 atoms_within s n h = rw (le-leb n max_atoms h)
 
 defined_within :
     (s : Reached) (atoms : List ℕ) → all (λ (a : ℕ). ltb a (atom_bound s)) atoms ≡ true → all (numbers_within s) (defined_forms atoms) ≡ true
-unfolding all numbers_within view_of bound_within defined_forms
+unfolding all numbers_within group_within of_kind same_kind kind_number view_of bound_within defined_forms
 defined_within s [] h = refl
 defined_within s (a ∷ atoms) h = rw h
 
-rule_within : (s : Reached) (r : Rule) → r.head < max_atoms → all literal_within (map literal_text r.body) ≡ true → numbers_within s (rule_form_of r) ≡ true
-unfolding numbers_within view_of bound_within all rule_form_of
-rule_within s r h l = rw (lt-ltb r.head max_atoms h, l)
+rule_within :
+    (s : Reached) (group : ℕ) (r : Rule) → group ≤ max_group → r.head < max_atoms → all literal_within (map literal_text r.body) ≡ true →
+    numbers_within s (rule_form_of group r) ≡ true
+unfolding numbers_within group_within between of_kind same_kind kind_number view_of bound_within all rule_form_of
+rule_within s zero r g h l = rw (lt-ltb r.head max_atoms h, l)
+rule_within s (suc group) r g h l = rw (le-leb 1 (suc group) (omega arith), le-leb (suc group) max_group g, lt-ltb r.head max_atoms h, l)
 
 clause_within : (s : Reached) (c : List ℕ) → all literal_within (map literal_text c) ≡ true → numbers_within s (clause_form_of c) ≡ true
-unfolding numbers_within view_of bound_within all clause_form_of
+unfolding numbers_within group_within of_kind same_kind kind_number view_of bound_within all clause_form_of
 clause_within s c l = rw l
 
 load_within :
     (s : Reached) (l : Load) → nat_abs l.low ≤ max_bound → nat_abs l.high ≤ max_bound → all term_within (map term_text l.terms) ≡ true →
     numbers_within s (load_form_of l) ≡ true
-unfolding numbers_within view_of bound_within all load_form_of
+unfolding numbers_within group_within of_kind same_kind kind_number view_of bound_within all load_form_of
 load_within s l low high ts = rw (le-leb (nat_abs l.low) max_bound low, le-leb (nat_abs l.high) max_bound high, ts)
 
 claim_within :
     (s : Reached) (pairs : List PairText) → all pair_within pairs ≡ true → length pairs ≤ max_atoms → numbers_within s (claim_form pairs) ≡ true
-unfolding numbers_within view_of bound_within all
+unfolding numbers_within group_within of_kind same_kind kind_number view_of bound_within all
 claim_within s pairs each few = rw (each, le-leb (length pairs) max_atoms few)
 
 -- A form without pairs is levelled, and so is a claim with a level for each group.
-rule_levelled : (s : Reached) (r : Rule) → levelled s (rule_form_of r) ≡ true
+rule_levelled : (s : Reached) (group : ℕ) (r : Rule) → levelled s (rule_form_of group r) ≡ true
 unfolding levelled all view_of rule_form_of
-rule_levelled s r = refl
+rule_levelled s zero r = refl
+rule_levelled s (suc group) r = refl
 
 clause_levelled : (s : Reached) (c : List ℕ) → levelled s (clause_form_of c) ≡ true
 unfolding levelled all view_of clause_form_of
@@ -140,9 +152,10 @@ claim_levelled s n groups values levels e =
     all_tabulate (levels_for (groups_reached s)) n _ (λ k l. eq-eqb _ _ (length_tabulate groups _ ∙ sym e))
 
 -- A form without atoms and without pairs has its parts in order.
-rule_ordered : (s : Reached) (r : Rule) → parts_in_order s (rule_form_of r) ≡ true
+rule_ordered : (s : Reached) (group : ℕ) (r : Rule) → parts_in_order s (rule_form_of group r) ≡ true
 unfolding parts_in_order rises_from of_kind view_of same_kind kind_number rule_form_of
-rule_ordered s r = refl
+rule_ordered s zero r = refl
+rule_ordered s (suc group) r = refl
 
 clause_ordered : (s : Reached) (c : List ℕ) → parts_in_order s (clause_form_of c) ≡ true
 unfolding parts_in_order rises_from of_kind view_of same_kind kind_number clause_form_of
@@ -207,11 +220,13 @@ module _ (t : Tables) (none : (test : Test) → Memᴰ test (table_tests t) → 
       (literal_small _ ((sound_loads t none).known _ place)))
 
   module _ (s : Reached) where
-    rules_within : all (numbers_within s) (map rule_form_of (rules_of t.rules t.literals)) ≡ true
-    unfolding rules_of rule_at rule_body
+    rules_within : all (numbers_within s) (map (row_form t.rules t.literals) (rows_by_group t.rules)) ≡ true
+    unfolding row_form rule_at rule_body
     rules_within =
-        all_rows (numbers_within s) rule_form_of (rule_count t.rules) (rule_at t.rules t.literals) (λ row l.
-        rule_within s (rule_at t.rules t.literals row) (omega (arith, (sound_rules t none).heads row l, (sound_sizes t none).few_atoms)) (body_within _ _))
+        all_map (numbers_within s) (row_form t.rules t.literals) (rows_by_group t.rules)
+        (rows_all t.rules (λ row. numbers_within s (row_form t.rules t.literals row)) (λ row l.
+        rule_within s (rule_group t.rules row) (rule_at t.rules t.literals row) ((sound_groups t none).small row l)
+        (omega (arith, (sound_rules t none).heads row l, (sound_sizes t none).few_atoms)) (body_within _ _)))
 
     clauses_within : all (numbers_within s) (map clause_form_of (clauses_of t.clauses t.literals)) ≡ true
     unfolding clauses_of clause_at
@@ -225,19 +240,19 @@ module _ (t : Tables) (none : (test : Test) → Memᴰ test (table_tests t) → 
         all_rows (numbers_within s) load_form_of (load_count t.loads) (load_at t.loads t.load_literals t.minutes) (λ row l.
         load_within s (load_at t.loads t.load_literals t.minutes row) (sound_load_rows t none row l).low (sound_load_rows t none row l).high (terms_within row l))
 
-    module _ (values levels : List ℕ) (size : s.size ≡ t.atoms) (stood : s.phase ≡ claim_stood) where
+    module _ (values levels : List ℕ) (size : s.size ≡ t.atoms) (stood : s.phase ≡ claim_stood) (groups : groups_reached s ≡ group_count t.rules) where
       bound_size : atom_bound s ≡ t.atoms
       unfolding atom_bound
       bound_size = rw (ne_eqb s.phase nothing_yet (λ e. omega arith)) size
 
-      pairs_within : Writable values levels → all pair_within (pairs_of t.atoms 1 values levels) ≡ true
+      pairs_within : Writable values levels → all pair_within (pairs_of t.atoms (group_count t.rules) values levels) ≡ true
       unfolding pairs_of pair_within
       pairs_within w =
           all_tabulate pair_within t.atoms _ (λ k l.
           both (leb (get_or values k 0) max_value) _ (le-leb _ _ (w.small k))
-          (all_tabulate (λ level. leb level max_level) 1 _ (λ group h. le-leb _ _ (w.low (group * t.atoms + k)))))
+          (all_tabulate (λ level. leb level max_level) (group_count t.rules) _ (λ group h. le-leb _ _ (w.low (group * t.atoms + k)))))
 
-      pairs_many : length (pairs_of t.atoms 1 values levels) ≡ t.atoms
+      pairs_many : length (pairs_of t.atoms (group_count t.rules) values levels) ≡ t.atoms
       unfolding pairs_of
       pairs_many = length_tabulate _ _
 
@@ -245,35 +260,35 @@ module _ (t : Tables) (none : (test : Test) → Memᴰ test (table_tests t) → 
       unfolding book_forms
       forms_within w =
           all_parts (numbers_within s) (atoms_form t.atoms) (defined_forms (marked_atoms t.atoms t.marks))
-          (map rule_form_of (rules_of t.rules t.literals)) (map clause_form_of (clauses_of t.clauses t.literals))
-          (map load_form_of (loads_of t.loads t.load_literals t.minutes)) (claim_form (pairs_of t.atoms 1 values levels))
+          (map (row_form t.rules t.literals) (rows_by_group t.rules)) (map clause_form_of (clauses_of t.clauses t.literals))
+          (map load_form_of (loads_of t.loads t.load_literals t.minutes)) (claim_form (pairs_of t.atoms (group_count t.rules) values levels))
           (atoms_within s t.atoms (sound_sizes t none).few_atoms)
           (defined_within s (marked_atoms t.atoms t.marks) (rw bound_size (marked_below t.atoms t.marks))) rules_within clauses_within loads_within
-          (claim_within s (pairs_of t.atoms 1 values levels) (pairs_within w) (omega (arith, pairs_many, (sound_sizes t none).few_atoms)))
+          (claim_within s (pairs_of t.atoms (group_count t.rules) values levels) (pairs_within w) (omega (arith, pairs_many, (sound_sizes t none).few_atoms)))
 
       forms_levelled : all (levelled s) (book_forms t values levels) ≡ true
-      unfolding book_forms
+      unfolding book_forms row_form
       forms_levelled =
           all_parts (levelled s) (atoms_form t.atoms) (defined_forms (marked_atoms t.atoms t.marks))
-          (map rule_form_of (rules_of t.rules t.literals)) (map clause_form_of (clauses_of t.clauses t.literals))
-          (map load_form_of (loads_of t.loads t.load_literals t.minutes)) (claim_form (pairs_of t.atoms 1 values levels))
+          (map (row_form t.rules t.literals) (rows_by_group t.rules)) (map clause_form_of (clauses_of t.clauses t.literals))
+          (map load_form_of (loads_of t.loads t.load_literals t.minutes)) (claim_form (pairs_of t.atoms (group_count t.rules) values levels))
           (atoms_levelled s t.atoms) (defined_levelled s (marked_atoms t.atoms t.marks))
-          (all_mapped (levelled s) rule_form_of (rule_levelled s) (rules_of t.rules t.literals))
+          (all_mapped (levelled s) (row_form t.rules t.literals) (λ row. rule_levelled s _ _) (rows_by_group t.rules))
           (all_mapped (levelled s) clause_form_of (clause_levelled s) (clauses_of t.clauses t.literals))
           (all_mapped (levelled s) load_form_of (load_levelled s) (loads_of t.loads t.load_literals t.minutes))
-          (claim_levelled s t.atoms 1 values levels (one_group_read s))
+          (claim_levelled s t.atoms (group_count t.rules) values levels groups)
 
       forms_ordered : all (parts_in_order s) (book_forms t values levels) ≡ true
-      unfolding book_forms
+      unfolding book_forms row_form
       forms_ordered =
           all_parts (parts_in_order s) (atoms_form t.atoms) (defined_forms (marked_atoms t.atoms t.marks))
-          (map rule_form_of (rules_of t.rules t.literals)) (map clause_form_of (clauses_of t.clauses t.literals))
-          (map load_form_of (loads_of t.loads t.load_literals t.minutes)) (claim_form (pairs_of t.atoms 1 values levels))
+          (map (row_form t.rules t.literals) (rows_by_group t.rules)) (map clause_form_of (clauses_of t.clauses t.literals))
+          (map load_form_of (loads_of t.loads t.load_literals t.minutes)) (claim_form (pairs_of t.atoms (group_count t.rules) values levels))
           (atoms_ordered s t.atoms) (defined_ordered s (marked_atoms t.atoms t.marks) (marked_rises t.atoms t.marks))
-          (all_mapped (parts_in_order s) rule_form_of (rule_ordered s) (rules_of t.rules t.literals))
+          (all_mapped (parts_in_order s) (row_form t.rules t.literals) (λ row. rule_ordered s _ _) (rows_by_group t.rules))
           (all_mapped (parts_in_order s) clause_form_of (clause_ordered s) (clauses_of t.clauses t.literals))
           (all_mapped (parts_in_order s) load_form_of (load_ordered s) (loads_of t.loads t.load_literals t.minutes))
-          (claim_ordered s (pairs_of t.atoms 1 values levels) (pairs_many ∙ sym size))
+          (claim_ordered s (pairs_of t.atoms (group_count t.rules) values levels) (pairs_many ∙ sym size))
 
   -- The state at the end counts what the tables take.
   pub taken_counted : (s : Reached) → Counted t s → (table : Table) → count_in s table ≡ taken_in t table
@@ -281,7 +296,8 @@ module _ (t : Tables) (none : (test : Test) → Memᴰ test (table_tests t) → 
   taken_counted s k =
       let sizes = sound_sizes t none in
       let values : values_counted s ≡ t.atoms = values_told s (omega (arith, k.stood)) ∙ k.size in
-      let levels : levels_counted s ≡ t.atoms = levels_told s (omega (arith, k.stood)) ∙ sym (one_level s) ∙ k.size in
+      let levels : levels_counted s ≡ t.atoms * group_count t.rules =
+      levels_told s (omega (arith, k.stood)) ∙ ap₂ (λ (n m : ℕ). n * m) k.size k.groups in
       each_table (λ table. count_in s table ≡ taken_in t table) (k.rules ∙ whole_rules_lem t.rules sizes.whole_rules) k.literals
       (k.clauses ∙ whole_clauses_lem t.clauses sizes.whole_clauses) (k.loads ∙ whole_loads_lem t.loads sizes.whole_loads) k.terms k.terms
       values values levels
@@ -296,8 +312,8 @@ module _ (t : Tables) (none : (test : Test) → Memᴰ test (table_tests t) → 
         let sizes = sound_sizes t none in
         record {
           sequence = book_sequence t values levels;
-          levels = forms_levelled s values levels k.size k.stood;
-          numbers = forms_within s values levels k.size k.stood writable;
+          levels = forms_levelled s values levels k.size k.stood k.groups;
+          numbers = forms_within s values levels k.size k.stood k.groups writable;
           counts =
               within_counts s (record {
                 rules = omega (arith, k.rules, whole_rules_lem t.rules sizes.whole_rules, sizes.few_rules);
@@ -306,6 +322,6 @@ module _ (t : Tables) (none : (test : Test) → Memᴰ test (table_tests t) → 
                 loads = omega (arith, k.loads, whole_loads_lem t.loads sizes.whole_loads, sizes.few_loads);
                 terms = omega (arith, k.terms);
               });
-          ordered = forms_ordered s values levels k.size k.stood;
+          ordered = forms_ordered s values levels k.size k.stood k.groups;
           held = each_fits space s (λ table. omega (arith, taken_counted s k table, room table));
         }

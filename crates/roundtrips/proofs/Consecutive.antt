@@ -3,7 +3,7 @@
 use Prim.Native.Nat.{ℕ, zero, suc, ◌+◌, ◌*◌, ◌<◌}
 use mathlib.Core.Path.{◌≡◌, refl, sym, ap, ◌∙◌}
 use mathlib.Core.Logic.{⊎_elim}
-use mathlib.Core.Bool.{true, false}
+use mathlib.Core.Bool.{Bool, true, false}
 use mathlib.Core.List.{List, [], ◌∷◌, ◌++◌, map, append_assoc, append-nil}
 use native.Mathlib.Omega.{arith}
 use lib.IntN.{ℤ, pos}
@@ -17,7 +17,7 @@ use Rattle.tables.specs.Loads.{load_count, index_of, load_entry, load_start, loa
 use Rattle.format.specs.declared.kinds.Kind.{Kind}
 use Rattle.format.specs.declared.kinds.Kind.TheVariants as FormKind
 use Rattle.format.specs.Forms.{Form}
-use Rattle.format.specs.Views.{view_of, kind_in, of_kind, same_kind, kind_number}
+use Rattle.format.specs.Views.{view_of, kind_in, rule_kind, of_kind, same_kind, kind_number}
 use Rattle.format.proofs.ViewLaws.{of_kind_lem, lists_by_kind}
 use Rattle.judging.specs.declared.reached.Reached.{Reached}
 use Rattle.judging.specs.LentTables.{Table, Rules, Clauses, Loads}
@@ -29,7 +29,7 @@ use Rattle.booktext.specs.UsedParts.{tables_of}
 use Rattle.writing.specs.Writing.{literals_by_row, terms_by_row}
 use Rattle.roundtrips.specs.RoundTrips.{Consecutive}
 use Rattle.roundtrips.proofs.ListTests.{all_one}
-use Rattle.roundtrips.proofs.Counted.{later_parts}
+use Rattle.roundtrips.proofs.BookRules.{later_parts, is_rule, clause_kind, load_kind, kind_other, rule_other, book_rules, are_rules_lem, whole_book}
 
 -- ── Rows of any width ──
 
@@ -72,18 +72,18 @@ abbrev term_counts : List Form → List ℕ
 term_counts fs = map (λ (f : Form). length (view_of f).terms) fs
 
 rule_front :
-    (head first size : ℕ) (rest : List ℕ) →
-    let rows = head ∷ first ∷ size ∷ rest in
+    (head first size group : ℕ) (rest : List ℕ) →
+    let rows = head ∷ first ∷ size ∷ group ∷ rest in
     (rule_count rows ≡ suc (rule_count rest)) × (rule_start rows 0 ≡ first) × (rule_size rows 0 ≡ size) × ((k : ℕ) → rule_start rows (suc k) ≡ rule_start rest k)
     × ((k : ℕ) → rule_size rows (suc k) ≡ rule_size rest k)
 unfolding rule_count rule_start rule_size
-rule_front head first size rest =
-    let row : List ℕ = head ∷ first ∷ size ∷ [] in (
+rule_front head first size group rest =
+    let row : List ℕ = head ∷ first ∷ size ∷ group ∷ [] in (
       omega arith,
       refl,
       refl,
-      λ k. (beyond_row row rest (suc k * 3 + 1) (k * 3 + 1) 0 (omega arith)),
-      λ k. (beyond_row row rest (suc k * 3 + 2) (k * 3 + 2) 0 (omega arith)),
+      λ k. (beyond_row row rest (suc k * 4 + 1) (k * 4 + 1) 0 (omega arith)),
+      λ k. (beyond_row row rest (suc k * 4 + 2) (k * 4 + 2) 0 (omega arith)),
     )
 
 clause_front :
@@ -116,16 +116,26 @@ load_front low high first size rest =
       λ k. ap index_of (beyond_row row rest (suc k * 4 + 3) (k * 4 + 3) (pos 0) (omega arith)),
     )
 
+rule_entries :
+    (s : Reached) (f : Form) (fs : List Form) → is_rule f ≡ true →
+    entries_from s (f ∷ fs) Rules ≡ (view_of f).head ∷ s.literals ∷ length (view_of f).literals ∷ (view_of f).group ∷ entries_from (after s f) fs Rules
+unfolding entries_from joined joined_by given_anew entries_of rule_row
+rule_entries s f fs is = rw is
+
+no_entries_lem : (s : Reached) → rule_count (entries_from s [] Rules) ≡ 0
+unfolding entries_from rule_count
+no_entries_lem s = refl
+
 rules_laid :
-    (s : Reached) (fs : List Form) → all (of_kind FormKind.Rule) fs ≡ true →
+    (s : Reached) (fs : List Form) → all is_rule fs ≡ true →
     Laid rule_count rule_start rule_size (literal_counts fs) s.literals (after_all s fs).literals (entries_from s fs Rules)
-unfolding all after_all after advanced entries_from joined joined_by given_anew entries_of rule_row rule_count
-rules_laid s [] h = (refl, refl)
+unfolding all after_all after advanced
+rules_laid s [] h = (no_entries_lem s, refl)
 rules_laid s (f ∷ fs) h =
-    let is = first (of_kind FormKind.Rule f) _ h in
+    let is = first (is_rule f) _ h in
     let rest = entries_from (after s f) fs Rules in
-    let front = rule_front (view_of f).head s.literals (length (view_of f).literals) rest in
-    rw is (rest, front.0, front.1, front.2, front.3, front.4, rules_laid (after s f) fs (second (of_kind FormKind.Rule f) _ h))
+    let front = rule_front (view_of f).head s.literals (length (view_of f).literals) (view_of f).group rest in
+    rw (rule_entries s f fs is) (rest, front.0, front.1, front.2, front.3, front.4, rules_laid (after s f) fs (second (is_rule f) _ h))
 
 clauses_laid :
     (s : Reached) (fs : List Form) → all (of_kind FormKind.Clause) fs ≡ true →
@@ -176,8 +186,8 @@ loads_signed s (f ∷ fs) h =
 -- ── A book ──
 
 -- A form of another kind adds no row.
-no_rule : (s : Reached) (f : Form) → same_kind (kind_in f) FormKind.Rule ≡ false → entries_of s f Rules ≡ []
-unfolding entries_of rule_row of_kind
+no_rule : (s : Reached) (f : Form) → is_rule f ≡ false → entries_of s f Rules ≡ []
+unfolding entries_of rule_row
 no_rule s f other = rw other
 
 no_clause : (s : Reached) (f : Form) → same_kind (kind_in f) FormKind.Clause ≡ false → entries_of s f Clauses ≡ []
@@ -195,19 +205,20 @@ module _ (table : Table) (laid : given_anew table ≡ false) where
   laid_both s [] ys = refl
   laid_both s (x ∷ xs) ys = rw (laid, laid_both (after s x) xs ys) (sym (append_assoc (entries_of s x table) _ _))
 
-  module _ (own : Kind) (skip : (s : Reached) (f : Form) → same_kind (kind_in f) own ≡ false → entries_of s f table ≡ []) where
-    laid_first : (s : Reached) (f : Form) (fs : List Form) → same_kind (kind_in f) own ≡ false → entries_from s (f ∷ fs) table ≡ entries_from (after s f) fs table
+  module _ (own : Kind → Bool) (skip : (s : Reached) (f : Form) → own (kind_in f) ≡ false → entries_of s f table ≡ []) where
+    laid_first : (s : Reached) (f : Form) (fs : List Form) → own (kind_in f) ≡ false → entries_from s (f ∷ fs) table ≡ entries_from (after s f) fs table
     unfolding entries_from joined joined_by
     laid_first s f fs other = rw (laid, skip s f other)
 
-    laid_none : (kind : Kind) → same_kind kind own ≡ false → (s : Reached) (fs : List Form) → all (of_kind kind) fs ≡ true → entries_from s fs table ≡ []
+    laid_none :
+        (is : Form → Bool) → ((f : Form) → is f ≡ true → own (kind_in f) ≡ false) → (s : Reached) (fs : List Form) → all is fs ≡ true →
+        entries_from s fs table ≡ []
     unfolding all
-    laid_none kind other s [] h = unfold entries_from in refl
-    laid_none kind other s (f ∷ fs) h =
-        laid_first s f fs (rw (of_kind_lem kind f (first (of_kind kind f) _ h)) other) ∙ laid_none kind other (after s f) fs (second (of_kind kind f) _ h)
+    laid_none is other s [] h = unfold entries_from in refl
+    laid_none is other s (f ∷ fs) h = laid_first s f fs (other f (first (is f) _ h)) ∙ laid_none is other (after s f) fs (second (is f) _ h)
 
     laid_state :
-        same_kind FormKind.Open own ≡ false → same_kind FormKind.Claim own ≡ false → (s : Reached) (f : Form) → is_state f ≡ true →
+        own FormKind.Open ≡ false → own FormKind.Claim ≡ false → (s : Reached) (f : Form) → is_state f ≡ true →
         entries_from s (f ∷ []) table ≡ []
     unfolding is_state
     laid_state opens claims s f h =
@@ -216,24 +227,24 @@ module _ (table : Table) (laid : given_anew table ≡ false) where
 
     -- Rows are those of rules, clauses and load lines.
     laid_book :
-        same_kind FormKind.Atoms own ≡ false → same_kind FormKind.Defined own ≡ false → same_kind FormKind.Open own ≡ false →
-        same_kind FormKind.Claim own ≡ false → (fs : List Form) (q : InSequence fs) →
+        own FormKind.Atoms ≡ false → own FormKind.Defined ≡ false → own FormKind.Open ≡ false → own FormKind.Claim ≡ false → (fs : List Form)
+        (q : InSequence fs) →
         let s1 = after_all (after start q.atoms) q.defined in
-        let s2 = after_all s1 q.rules in
+        let s2 = after_all s1 (book_rules fs q) in
         let s3 = after_all s2 q.clauses in
-        entries_from start fs table ≡ entries_from s1 q.rules table ++ (entries_from s2 q.clauses table ++ entries_from s3 q.loads table)
+        entries_from start fs table ≡ entries_from s1 (book_rules fs q) table ++ (entries_from s2 q.clauses table ++ entries_from s3 q.loads table)
     laid_book na nd opens claims fs q =
         let s0 = after start q.atoms in
         let s1 = after_all s0 q.defined in
-        let s2 = after_all s1 q.rules in
+        let s2 = after_all s1 (book_rules fs q) in
         let s3 = after_all s2 q.clauses in
         let s4 = after_all s3 q.loads in
-        ap (λ (gs : List Form). entries_from start gs table) q.whole ∙
+        ap (λ (gs : List Form). entries_from start gs table) (whole_book fs q) ∙
         (laid_first start q.atoms _ (rw (of_kind_lem FormKind.Atoms q.atoms q.are_atoms) na) ∙
         rw (
           laid_both s0 q.defined _,
-          laid_none FormKind.Defined nd s0 q.defined q.are_defined,
-          laid_both s1 q.rules _,
+          laid_none (of_kind FormKind.Defined) (kind_other own FormKind.Defined nd) s0 q.defined q.are_defined,
+          laid_both s1 (book_rules fs q) _,
           laid_both s2 q.clauses _,
           laid_both s3 q.loads _,
           laid_state opens claims s4 q.state q.tells_state,
@@ -242,7 +253,7 @@ module _ (table : Table) (laid : given_anew table ≡ false) where
 
 -- Forms without literals leave their count, and so do forms without terms.
 literals_kept :
-    (kind : Kind) → same_kind kind FormKind.Rule ≡ false → same_kind kind FormKind.Clause ≡ false → (s : Reached) (fs : List Form) →
+    (kind : Kind) → rule_kind kind ≡ false → same_kind kind FormKind.Clause ≡ false → (s : Reached) (fs : List Form) →
     all (of_kind kind) fs ≡ true → (after_all s fs).literals ≡ s.literals
 unfolding all after_all after advanced
 literals_kept kind nr nc s [] h = refl
@@ -252,31 +263,30 @@ literals_kept kind nr nc s (f ∷ fs) h =
     literals_kept kind nr nc (after s f) fs (second (of_kind kind f) _ h) ∙ rw none (omega arith)
 
 terms_kept :
-    (kind : Kind) → same_kind kind FormKind.Load ≡ false → (s : Reached) (fs : List Form) → all (of_kind kind) fs ≡ true →
+    (is : Form → Bool) → ((f : Form) → is f ≡ true → same_kind (kind_in f) FormKind.Load ≡ false) → (s : Reached) (fs : List Form) → all is fs ≡ true →
     (after_all s fs).terms ≡ s.terms
 unfolding all after_all after advanced
-terms_kept kind nl s [] h = refl
-terms_kept kind nl s (f ∷ fs) h =
-    let e = of_kind_lem kind f (first (of_kind kind f) _ h) in
-    let none : (view_of f).terms ≡ [] = (lists_by_kind f).no_terms (rw (e, nl)) in
-    terms_kept kind nl (after s f) fs (second (of_kind kind f) _ h) ∙ rw none (omega arith)
+terms_kept is other s [] h = refl
+terms_kept is other s (f ∷ fs) h =
+    let none : (view_of f).terms ≡ [] = (lists_by_kind f).no_terms (other f (first (is f) _ h)) in
+    terms_kept is other (after s f) fs (second (is f) _ h) ∙ rw none (omega arith)
 
 state_keeps :
     (s : Reached) (f : Form) → is_state f ≡ true →
     ((after_all s (f ∷ [])).literals ≡ s.literals) × ((after_all s (f ∷ [])).terms ≡ s.terms)
-unfolding is_state same_kind kind_number
+unfolding is_state rule_kind same_kind kind_number
 state_keeps s f h =
     ⊎_elim
     (λ o.
     let one = all_one (of_kind FormKind.Open) f o in
-    (literals_kept FormKind.Open refl refl s (f ∷ []) one, terms_kept FormKind.Open refl s (f ∷ []) one))
+    (literals_kept FormKind.Open refl refl s (f ∷ []) one, terms_kept (of_kind FormKind.Open) (kind_other load_kind FormKind.Open refl) s (f ∷ []) one))
     (λ c.
     let one = all_one (of_kind FormKind.Claim) f c in
-    (literals_kept FormKind.Claim refl refl s (f ∷ []) one, terms_kept FormKind.Claim refl s (f ∷ []) one))
+    (literals_kept FormKind.Claim refl refl s (f ∷ []) one, terms_kept (of_kind FormKind.Claim) (kind_other load_kind FormKind.Claim refl) s (f ∷ []) one))
     (either (of_kind FormKind.Open f) _ h)
 
 none_begun : (f : Form) → of_kind FormKind.Atoms f ≡ true → ((after start f).literals ≡ 0) × ((after start f).terms ≡ 0)
-unfolding after advanced start same_kind kind_number
+unfolding after advanced start rule_kind same_kind kind_number
 none_begun f h =
     let e = of_kind_lem FormKind.Atoms f h in
     let nl : (view_of f).literals ≡ [] = (lists_by_kind f).no_literals (rw e) in
@@ -289,62 +299,62 @@ module _ (fs : List Form) (q : InSequence fs) where
   begun = after_all (after start q.atoms) q.defined
 
   ruled : Reached
-  ruled = after_all begun q.rules
+  ruled = after_all begun (book_rules fs q)
 
   claused : Reached
   claused = after_all ruled q.clauses
 
   no_literals_lem : begun.literals ≡ 0
-  unfolding begun same_kind kind_number
+  unfolding begun rule_kind same_kind kind_number
   no_literals_lem = literals_kept FormKind.Defined refl refl (after start q.atoms) q.defined q.are_defined ∙ (none_begun q.atoms q.are_atoms).0
 
   no_terms_lem : claused.terms ≡ 0
   unfolding begun ruled claused same_kind kind_number
   no_terms_lem =
-      terms_kept FormKind.Clause refl (after_all (after_all (after start q.atoms) q.defined) q.rules) q.clauses q.are_clauses ∙
-      (terms_kept FormKind.Rule refl (after_all (after start q.atoms) q.defined) q.rules q.are_rules ∙
-      (terms_kept FormKind.Defined refl (after start q.atoms) q.defined q.are_defined ∙ (none_begun q.atoms q.are_atoms).1))
+      terms_kept (of_kind FormKind.Clause) (kind_other load_kind FormKind.Clause refl) (after_all (after_all (after start q.atoms) q.defined) (book_rules fs q)) q.clauses q.are_clauses ∙
+      (terms_kept is_rule (rule_other load_kind refl refl) (after_all (after start q.atoms) q.defined) (book_rules fs q) (are_rules_lem fs q) ∙
+      (terms_kept (of_kind FormKind.Defined) (kind_other load_kind FormKind.Defined refl) (after start q.atoms) q.defined q.are_defined ∙ (none_begun q.atoms q.are_atoms).1))
 
-  book_rules : book_entries fs Rules ≡ entries_from begun q.rules Rules
-  unfolding book_entries begun given_anew same_kind kind_number
-  book_rules =
-      laid_book Rules refl FormKind.Rule no_rule refl refl refl refl fs q ∙
+  book_rules_lem : book_entries fs Rules ≡ entries_from begun (book_rules fs q) Rules
+  unfolding book_entries begun given_anew rule_kind same_kind kind_number
+  book_rules_lem =
+      laid_book Rules refl rule_kind no_rule refl refl refl refl fs q ∙
       rw (
-        laid_none Rules refl FormKind.Rule no_rule FormKind.Clause refl _ q.clauses q.are_clauses,
-        laid_none Rules refl FormKind.Rule no_rule FormKind.Load refl _ q.loads q.are_loads,
+        laid_none Rules refl rule_kind no_rule (of_kind FormKind.Clause) (kind_other rule_kind FormKind.Clause refl) _ q.clauses q.are_clauses,
+        laid_none Rules refl rule_kind no_rule (of_kind FormKind.Load) (kind_other rule_kind FormKind.Load refl) _ q.loads q.are_loads,
         append-nil,
       )
 
   book_clauses : book_entries fs Clauses ≡ entries_from ruled q.clauses Clauses
   unfolding book_entries begun ruled given_anew same_kind kind_number
   book_clauses =
-      laid_book Clauses refl FormKind.Clause no_clause refl refl refl refl fs q ∙
+      laid_book Clauses refl clause_kind no_clause refl refl refl refl fs q ∙
       rw (
-        laid_none Clauses refl FormKind.Clause no_clause FormKind.Rule refl _ q.rules q.are_rules,
-        laid_none Clauses refl FormKind.Clause no_clause FormKind.Load refl _ q.loads q.are_loads,
+        laid_none Clauses refl clause_kind no_clause is_rule (rule_other clause_kind refl refl) _ (book_rules fs q) (are_rules_lem fs q),
+        laid_none Clauses refl clause_kind no_clause (of_kind FormKind.Load) (kind_other clause_kind FormKind.Load refl) _ q.loads q.are_loads,
         append-nil,
       )
 
   book_loads : book_entries fs Loads ≡ entries_from claused q.loads Loads
   unfolding book_entries begun ruled claused given_anew same_kind kind_number
   book_loads =
-      laid_book Loads refl FormKind.Load no_load refl refl refl refl fs q ∙
+      laid_book Loads refl load_kind no_load refl refl refl refl fs q ∙
       rw (
-        laid_none Loads refl FormKind.Load no_load FormKind.Rule refl _ q.rules q.are_rules,
-        laid_none Loads refl FormKind.Load no_load FormKind.Clause refl _ q.clauses q.are_clauses,
+        laid_none Loads refl load_kind no_load is_rule (rule_other load_kind refl refl) _ (book_rules fs q) (are_rules_lem fs q),
+        laid_none Loads refl load_kind no_load (of_kind FormKind.Clause) (kind_other load_kind FormKind.Clause refl) _ q.clauses q.are_clauses,
       )
 
   rules_follow : (row : ℕ) → row < rule_count (book_entries fs Rules) → rule_start (book_entries fs Rules) row ≡ sum_below row (rule_size (book_entries fs Rules))
   rules_follow =
-      rw book_rules (λ row l.
-      let k = laid_starts rule_count rule_start rule_size (literal_counts q.rules) begun.literals (after_all begun q.rules).literals (entries_from begun q.rules Rules) (rules_laid begun q.rules q.are_rules) row l in
+      rw book_rules_lem (λ row l.
+      let k = laid_starts rule_count rule_start rule_size (literal_counts (book_rules fs q)) begun.literals (after_all begun (book_rules fs q)).literals (entries_from begun (book_rules fs q) Rules) (rules_laid begun (book_rules fs q) (are_rules_lem fs q)) row l in
       k ∙ omega (arith, no_literals_lem))
 
   rules_end : ruled.literals ≡ literals_by_rule (book_entries fs Rules)
   unfolding ruled literals_by_rule
   rules_end =
-      rw book_rules
-      (laid_end rule_count rule_start rule_size (literal_counts q.rules) begun.literals (after_all begun q.rules).literals (entries_from begun q.rules Rules) (rules_laid begun q.rules q.are_rules) ∙ omega (arith, no_literals_lem))
+      rw book_rules_lem
+      (laid_end rule_count rule_start rule_size (literal_counts (book_rules fs q)) begun.literals (after_all begun (book_rules fs q)).literals (entries_from begun (book_rules fs q) Rules) (rules_laid begun (book_rules fs q) (are_rules_lem fs q)) ∙ omega (arith, no_literals_lem))
 
   clauses_follow :
       (row : ℕ) → row < clause_count (book_entries fs Clauses) →
@@ -362,10 +372,10 @@ module _ (fs : List Form) (q : InSequence fs) where
   -- The state at the end counts the literals and the terms of all rows.
   ended : after_all start fs ≡ after_all (after_all claused q.loads) (q.state ∷ [])
   unfolding begun ruled claused after_all
-  ended = ap (after_all start) q.whole ∙ later_parts (after start q.atoms) q.defined q.rules q.clauses q.loads (q.state ∷ [])
+  ended = ap (after_all start) (whole_book fs q) ∙ later_parts (after start q.atoms) q.defined (book_rules fs q) q.clauses q.loads (q.state ∷ [])
 
   pub literals_end : (after_all start fs).literals ≡ literals_by_row (book_entries fs Rules) (book_entries fs Clauses)
-  unfolding claused literals_by_row literals_by_rule same_kind kind_number
+  unfolding claused literals_by_row literals_by_rule rule_kind same_kind kind_number
   literals_end =
       let clauses =
       laid_end clause_count clause_start clause_size (literal_counts q.clauses) ruled.literals (after_all ruled q.clauses).literals (entries_from ruled q.clauses Clauses) (clauses_laid ruled q.clauses q.are_clauses) in

@@ -1,27 +1,31 @@
 -- Forms and what they mean, there and back: literals, terms, rules, clauses, load lines, and the parts of a book.
 -- Assumes nothing.
-use Prim.Native.Nat.{ℕ, zero, suc, ◌+◌, ◌*◌, ◌/◌, ◌%◌, ◌≤◌, ◌<◌}
+use Prim.Native.Nat.{ℕ, zero, suc, ◌+◌, ◌*◌, ◌/◌, ◌%◌, ◌<◌}
 use mathlib.Core.Path.{◌≡◌, refl, sym, ap, ap₂, ◌∙◌}
 use mathlib.Core.Logic.{◌⊎◌, inl, inr, ⊎_elim}
 use mathlib.Core.Bool.{Bool, true, false, cond, false≢true}
 use mathlib.Core.List.{List, [], ◌∷◌, ◌++◌, map, append_assoc, append-nil}
 use native.Mathlib.Omega.{arith}
 use lib.Dec.{eqb}
-use borrow.Author.Tests.{eqb-true, eqb-false, eq-eqb, ne_eqb}
-use Rattle.wellfounded.specs.Lists.{all}
+use borrow.Author.Tests.{eqb-true, eqb-false}
+use Rattle.wellfounded.specs.Lists.{all, tabulate}
 use Rattle.wellfounded.specs.Literals.{atom_of, is_negated}
 use Rattle.wellfounded.specs.Definitions.{Rule}
 use Rattle.wellfounded.proofs.Tests.{decided, first, second, either}
+use Rattle.tables.specs.Rows.{rule_at, rule_group}
 use Rattle.tables.specs.Loads.{Term, Load}
 use Rattle.format.specs.declared.kinds.Kind.{Kind}
 use Rattle.format.specs.declared.kinds.Kind.TheVariants as FormKind
-use Rattle.format.specs.Forms.{LiteralText, TermText, Form, atoms_form, rule_form, clause_form, load_form, open_form, claim_form, defined_form}
-use Rattle.format.specs.Views.{view_of, kind_in, of_kind, same_kind, kind_number}
+use Rattle.format.specs.Forms.{LiteralText, TermText, Form, atoms_form, rule_form, clause_form, load_form, open_form, claim_form, defined_form, also_form}
+use Rattle.format.specs.Views.{view_of, kind_in, rule_kind, of_kind, same_kind, kind_number}
 use Rattle.format.proofs.ViewLaws.{of_kind_lem}
 use Rattle.items.specs.Items.{code_of, literal_code}
+use Rattle.judging.specs.Judging.{between, group_within}
 use Rattle.judging.specs.Books.{is_state, InSequence}
-use Rattle.forms.specs.Decoded.{codes_of, term_of, rule_in, clause_in, load_in, rules_in, clauses_in, loads_in}
-use Rattle.writing.specs.BookForms.{literal_text, term_text, rule_form_of, clause_form_of, load_form_of}
+use Rattle.forms.specs.Decoded.{codes_of, term_of, rule_in, group_in, clause_in, load_in, rules_in, groups_in, clauses_in, loads_in}
+use Rattle.writing.specs.BookForms.{literal_text, term_text, rule_form_of, row_form, clause_form_of, load_form_of}
+use Rattle.writing.proofs.PartLaws.{map_both}
+use Rattle.roundtrips.proofs.BookRules.{is_rule, clause_kind, load_kind, kind_other, rule_other, book_rules, are_rules_lem, whole_book}
 
 -- ── Literals and terms ──
 
@@ -72,9 +76,15 @@ text_again t = ap (λ (l : LiteralText). record { minutes = t.minutes; literal =
 
 -- ── Rules, clauses and load lines ──
 
-rule_read : (r : Rule) → rule_in (rule_form_of r) ≡ r ∷ []
-unfolding rule_in rule_form_of of_kind same_kind kind_number view_of codes_of
-rule_read r = ap (λ (body : List ℕ). record { head = r.head; body = body } ∷ []) (map_again literal_text literal_code literal_again r.body)
+rule_read : (group : ℕ) (r : Rule) → rule_in (rule_form_of group r) ≡ r ∷ []
+unfolding rule_in rule_form_of rule_kind same_kind kind_number view_of codes_of
+rule_read zero r = ap (λ (body : List ℕ). record { head = r.head; body = body } ∷ []) (map_again literal_text literal_code literal_again r.body)
+rule_read (suc group) r = ap (λ (body : List ℕ). record { head = r.head; body = body } ∷ []) (map_again literal_text literal_code literal_again r.body)
+
+group_read : (group : ℕ) (r : Rule) → group_in (rule_form_of group r) ≡ group ∷ []
+unfolding group_in rule_form_of rule_kind same_kind kind_number view_of
+group_read zero r = refl
+group_read (suc group) r = refl
 
 clause_read : (c : List ℕ) → clause_in (clause_form_of c) ≡ c ∷ []
 unfolding clause_in clause_form_of of_kind same_kind kind_number view_of codes_of
@@ -84,10 +94,17 @@ load_read : (l : Load) → load_in (load_form_of l) ≡ l ∷ []
 unfolding load_in load_form_of of_kind same_kind kind_number view_of
 load_read l = ap (λ (terms : List Term). record { low = l.low; high = l.high; terms = terms } ∷ []) (map_again term_text term_of term_again l.terms)
 
-pub rules_read : (rs : List Rule) → rules_in (map rule_form_of rs) ≡ rs
-unfolding rules_in
-rules_read [] = refl
-rules_read (r ∷ rs) = rw (rule_read r, rules_read rs)
+-- Rows are read as their rules and their groups.
+module _ (rules literals : List ℕ) where
+  pub rules_read : (rows : List ℕ) → rules_in (map (row_form rules literals) rows) ≡ map (rule_at rules literals) rows
+  unfolding rules_in row_form
+  rules_read [] = refl
+  rules_read (row ∷ rows) = rw (rule_read (rule_group rules row) (rule_at rules literals row), rules_read rows)
+
+  pub groups_read : (rows : List ℕ) → groups_in (map (row_form rules literals) rows) ≡ map (rule_group rules) rows
+  unfolding groups_in row_form
+  groups_read [] = refl
+  groups_read (row ∷ rows) = rw (group_read (rule_group rules row) (rule_at rules literals row), groups_read rows)
 
 pub clauses_read : (cs : List (List ℕ)) → clauses_in (map clause_form_of cs) ≡ cs
 unfolding clauses_in
@@ -100,15 +117,26 @@ loads_read [] = refl
 loads_read (l ∷ ls) = rw (load_read l, loads_read ls)
 
 -- The other way round, a form of its kind is written as it was read.
-rule_written : (f : Form) → of_kind FormKind.Rule f ≡ true → map rule_form_of (rule_in f) ≡ f ∷ []
-unfolding rule_in rule_form_of of_kind same_kind kind_number view_of codes_of
-rule_written (rule_form h ls) k = ap (λ (body : List LiteralText). rule_form h body ∷ []) (map_again literal_code literal_text code_again ls)
-rule_written (atoms_form n) k = absurd (false≢true k)
-rule_written (clause_form ls) k = absurd (false≢true k)
-rule_written (load_form lo hi ts) k = absurd (false≢true k)
-rule_written (open_form atoms) k = absurd (false≢true k)
-rule_written (claim_form ps) k = absurd (false≢true k)
-rule_written (defined_form a others) k = absurd (false≢true k)
+-- Of a rule the group is told beside it; a group that is named is not 0.
+unfoldable pub forms_by : List ℕ → List Rule → List Form
+forms_by [] rs = []
+forms_by (group ∷ groups) [] = []
+forms_by (group ∷ groups) (r ∷ rs) = rule_form_of group r ∷ forms_by groups rs
+
+rule_written :
+    (f : Form) (groups : List ℕ) (rs : List Rule) → is_rule f ≡ true → group_within f ≡ true → forms_by (group_in f ++ groups) (rule_in f ++ rs) ≡ f ∷ forms_by groups rs
+unfolding forms_by group_in rule_in rule_form_of rule_kind group_within between of_kind same_kind kind_number view_of codes_of
+rule_written (rule_form h ls) groups rs k w =
+    ap (λ (body : List LiteralText). rule_form h body ∷ forms_by groups rs) (map_again literal_code literal_text code_again ls)
+rule_written (also_form zero h ls) groups rs k w = absurd (false≢true w)
+rule_written (also_form (suc g) h ls) groups rs k w =
+    ap (λ (body : List LiteralText). also_form (suc g) h body ∷ forms_by groups rs) (map_again literal_code literal_text code_again ls)
+rule_written (atoms_form n) groups rs k w = absurd (false≢true k)
+rule_written (clause_form ls) groups rs k w = absurd (false≢true k)
+rule_written (load_form lo hi ts) groups rs k w = absurd (false≢true k)
+rule_written (open_form atoms) groups rs k w = absurd (false≢true k)
+rule_written (claim_form ps) groups rs k w = absurd (false≢true k)
+rule_written (defined_form a others) groups rs k w = absurd (false≢true k)
 
 clause_written : (f : Form) → of_kind FormKind.Clause f ≡ true → map clause_form_of (clause_in f) ≡ f ∷ []
 unfolding clause_in clause_form_of of_kind same_kind kind_number view_of codes_of
@@ -119,6 +147,7 @@ clause_written (load_form lo hi ts) k = absurd (false≢true k)
 clause_written (open_form atoms) k = absurd (false≢true k)
 clause_written (claim_form ps) k = absurd (false≢true k)
 clause_written (defined_form a others) k = absurd (false≢true k)
+clause_written (also_form g h ls) k = absurd (false≢true k)
 
 load_written : (f : Form) → of_kind FormKind.Load f ≡ true → map load_form_of (load_in f) ≡ f ∷ []
 unfolding load_in load_form_of of_kind same_kind kind_number view_of
@@ -129,10 +158,7 @@ load_written (clause_form ls) k = absurd (false≢true k)
 load_written (open_form atoms) k = absurd (false≢true k)
 load_written (claim_form ps) k = absurd (false≢true k)
 load_written (defined_form a others) k = absurd (false≢true k)
-
-map_both : {A B : Type 0} (g : A → B) (xs ys : List A) → map g (xs ++ ys) ≡ map g xs ++ map g ys
-map_both g [] ys = refl
-map_both {A} {B} g (x ∷ xs) ys = ap (λ (zs : List B). g x ∷ zs) (map_both g xs ys)
+load_written (also_form g h ls) k = absurd (false≢true k)
 
 -- What is gathered of forms one by one.
 module _
@@ -150,31 +176,28 @@ module _
         rw (more x xs, map_both form (one x) (gather xs), back x (first (of_kind kind x) _ h), gather_again xs (second (of_kind kind x) _ h))
 
   -- Of forms of another kind nothing is gathered, nor of the first and the last form of a book and of its defined form.
-  module _ (own : Kind) (skip : (f : Form) → same_kind (kind_in f) own ≡ false → one f ≡ []) where
-    gather_none : (kind : Kind) → same_kind kind own ≡ false → (xs : List Form) → all (of_kind kind) xs ≡ true → gather xs ≡ []
+  module _ (own : Kind → Bool) (skip : (f : Form) → own (kind_in f) ≡ false → one f ≡ []) where
+    gather_none : (is : Form → Bool) → ((f : Form) → is f ≡ true → own (kind_in f) ≡ false) → (xs : List Form) → all is xs ≡ true → gather xs ≡ []
     unfolding all
-    gather_none kind differs [] h = none
-    gather_none kind differs (x ∷ xs) h =
-        let e = of_kind_lem kind x (first (of_kind kind x) _ h) in
-        rw (more x xs, skip x (rw e differs), gather_none kind differs xs (second (of_kind kind x) _ h))
+    gather_none is differs [] h = none
+    gather_none is differs (x ∷ xs) h = rw (more x xs, skip x (differs x (first (is x) _ h)), gather_none is differs xs (second (is x) _ h))
 
-    gather_state : same_kind FormKind.Open own ≡ false → same_kind FormKind.Claim own ≡ false → (f : Form) → is_state f ≡ true → one f ≡ []
+    gather_state : own FormKind.Open ≡ false → own FormKind.Claim ≡ false → (f : Form) → is_state f ≡ true → one f ≡ []
     unfolding is_state
     gather_state open₀ claim₀ f h =
         ⊎_elim (λ o. skip f (rw (of_kind_lem FormKind.Open f o) open₀)) (λ c. skip f (rw (of_kind_lem FormKind.Claim f c) claim₀)) (either (of_kind FormKind.Open f) _ h)
 
     gather_book :
-        same_kind FormKind.Atoms own ≡ false → same_kind FormKind.Defined own ≡ false → same_kind FormKind.Open own ≡ false →
-        same_kind FormKind.Claim own ≡ false → (fs : List Form) (q : InSequence fs) →
-        gather fs ≡ gather q.rules ++ (gather q.clauses ++ gather q.loads)
+        own FormKind.Atoms ≡ false → own FormKind.Defined ≡ false → own FormKind.Open ≡ false → own FormKind.Claim ≡ false → (fs : List Form)
+        (q : InSequence fs) → gather fs ≡ gather (book_rules fs q) ++ (gather q.clauses ++ gather q.loads)
     gather_book na nd opens claims fs q =
-        ap gather q.whole ∙
+        ap gather (whole_book fs q) ∙
         (more q.atoms _ ∙
         rw (
           skip q.atoms (rw (of_kind_lem FormKind.Atoms q.atoms q.are_atoms) na),
           gather_both q.defined _,
-          gather_none FormKind.Defined nd q.defined q.are_defined,
-          gather_both q.rules _,
+          gather_none (of_kind FormKind.Defined) (kind_other own FormKind.Defined nd) q.defined q.are_defined,
+          gather_both (book_rules fs q) _,
           gather_both q.clauses _,
           gather_both q.loads _,
           more q.state [],
@@ -185,9 +208,13 @@ module _
 
 -- ── The parts of a book ──
 
-rule_skip : (f : Form) → same_kind (kind_in f) FormKind.Rule ≡ false → rule_in f ≡ []
-unfolding rule_in of_kind
+rule_skip : (f : Form) → is_rule f ≡ false → rule_in f ≡ []
+unfolding rule_in
 rule_skip f differs = rw differs
+
+group_skip : (f : Form) → is_rule f ≡ false → group_in f ≡ []
+unfolding group_in
+group_skip f differs = rw differs
 
 clause_skip : (f : Form) → same_kind (kind_in f) FormKind.Clause ≡ false → clause_in f ≡ []
 unfolding clause_in of_kind
@@ -198,39 +225,58 @@ unfolding load_in of_kind
 load_skip f differs = rw differs
 
 module _ (fs : List Form) (q : InSequence fs) where
-  pub rules_of_book : rules_in fs ≡ rules_in q.rules
-  unfolding rules_in same_kind kind_number
+  pub rules_of_book : rules_in fs ≡ rules_in (book_rules fs q)
+  unfolding rules_in rule_kind same_kind kind_number
   rules_of_book =
-      gather_book rule_in rules_in refl (λ f gs. refl) FormKind.Rule rule_skip refl refl refl refl fs q ∙
+      gather_book rule_in rules_in refl (λ f gs. refl) rule_kind rule_skip refl refl refl refl fs q ∙
       rw (
-        gather_none rule_in rules_in refl (λ f gs. refl) FormKind.Rule rule_skip FormKind.Clause refl q.clauses q.are_clauses,
-        gather_none rule_in rules_in refl (λ f gs. refl) FormKind.Rule rule_skip FormKind.Load refl q.loads q.are_loads,
+        gather_none rule_in rules_in refl (λ f gs. refl) rule_kind rule_skip (of_kind FormKind.Clause) (kind_other rule_kind FormKind.Clause refl) q.clauses q.are_clauses,
+        gather_none rule_in rules_in refl (λ f gs. refl) rule_kind rule_skip (of_kind FormKind.Load) (kind_other rule_kind FormKind.Load refl) q.loads q.are_loads,
+        append-nil,
+      )
+
+  pub groups_of_book : groups_in fs ≡ groups_in (book_rules fs q)
+  unfolding groups_in rule_kind same_kind kind_number
+  groups_of_book =
+      gather_book group_in groups_in refl (λ f gs. refl) rule_kind group_skip refl refl refl refl fs q ∙
+      rw (
+        gather_none group_in groups_in refl (λ f gs. refl) rule_kind group_skip (of_kind FormKind.Clause) (kind_other rule_kind FormKind.Clause refl) q.clauses q.are_clauses,
+        gather_none group_in groups_in refl (λ f gs. refl) rule_kind group_skip (of_kind FormKind.Load) (kind_other rule_kind FormKind.Load refl) q.loads q.are_loads,
         append-nil,
       )
 
   pub clauses_of_book : clauses_in fs ≡ clauses_in q.clauses
   unfolding clauses_in same_kind kind_number
   clauses_of_book =
-      gather_book clause_in clauses_in refl (λ f gs. refl) FormKind.Clause clause_skip refl refl refl refl fs q ∙
+      gather_book clause_in clauses_in refl (λ f gs. refl) clause_kind clause_skip refl refl refl refl fs q ∙
       rw (
-        gather_none clause_in clauses_in refl (λ f gs. refl) FormKind.Clause clause_skip FormKind.Rule refl q.rules q.are_rules,
-        gather_none clause_in clauses_in refl (λ f gs. refl) FormKind.Clause clause_skip FormKind.Load refl q.loads q.are_loads,
+        gather_none clause_in clauses_in refl (λ f gs. refl) clause_kind clause_skip is_rule (rule_other clause_kind refl refl) (book_rules fs q) (are_rules_lem fs q),
+        gather_none clause_in clauses_in refl (λ f gs. refl) clause_kind clause_skip (of_kind FormKind.Load) (kind_other clause_kind FormKind.Load refl) q.loads q.are_loads,
         append-nil,
       )
 
   pub loads_of_book : loads_in fs ≡ loads_in q.loads
   unfolding loads_in same_kind kind_number
   loads_of_book =
-      gather_book load_in loads_in refl (λ f gs. refl) FormKind.Load load_skip refl refl refl refl fs q ∙
+      gather_book load_in loads_in refl (λ f gs. refl) load_kind load_skip refl refl refl refl fs q ∙
       rw (
-        gather_none load_in loads_in refl (λ f gs. refl) FormKind.Load load_skip FormKind.Rule refl q.rules q.are_rules,
-        gather_none load_in loads_in refl (λ f gs. refl) FormKind.Load load_skip FormKind.Clause refl q.clauses q.are_clauses,
+        gather_none load_in loads_in refl (λ f gs. refl) load_kind load_skip is_rule (rule_other load_kind refl refl) (book_rules fs q) (are_rules_lem fs q),
+        gather_none load_in loads_in refl (λ f gs. refl) load_kind load_skip (of_kind FormKind.Clause) (kind_other load_kind FormKind.Clause refl) q.clauses q.are_clauses,
       )
 
 -- Rule forms are written as they were read, and so are clauses and load lines.
-pub rules_written : (xs : List Form) → all (of_kind FormKind.Rule) xs ≡ true → map rule_form_of (rules_in xs) ≡ xs
-unfolding rules_in
-rules_written = gather_again rule_in rules_in refl (λ f gs. refl) rule_form_of FormKind.Rule rule_written
+pub rules_written : (xs : List Form) → all is_rule xs ≡ true → all group_within xs ≡ true → forms_by (groups_in xs) (rules_in xs) ≡ xs
+unfolding rules_in groups_in all
+rules_written [] h w = unfold forms_by in refl
+rules_written (x ∷ xs) h w =
+    rule_written x (groups_in xs) (rules_in xs) (first (is_rule x) _ h) (first (group_within x) _ w)
+    ∙ ap (λ (fs : List Form). x ∷ fs) (rules_written xs (second (is_rule x) _ h) (second (group_within x) _ w))
+
+-- The forms of rows, by their groups and rules.
+pub forms_by_lem : (n : ℕ) (group : ℕ → ℕ) (rule : ℕ → Rule) → forms_by (tabulate n group) (tabulate n rule) ≡ tabulate n (λ k. rule_form_of (group k) (rule k))
+unfolding tabulate forms_by
+forms_by_lem zero group rule = refl
+forms_by_lem (suc n) group rule = ap (λ (fs : List Form). rule_form_of (group 0) (rule 0) ∷ fs) (forms_by_lem n (λ k. group (suc k)) (λ k. rule (suc k)))
 
 pub clauses_written : (xs : List Form) → all (of_kind FormKind.Clause) xs ≡ true → map clause_form_of (clauses_in xs) ≡ xs
 unfolding clauses_in

@@ -21,6 +21,11 @@ module _ {A : Type 0} (p : A → Bool) where
   all_left [] ys h = refl
   all_left (x ∷ xs) ys h = both (p x) _ (first (p x) _ h) (all_left xs ys (second (p x) _ h))
 
+  pub all_right : (xs ys : List A) → all p (xs ++ ys) ≡ true → all p ys ≡ true
+  unfolding all
+  all_right [] ys h = h
+  all_right (x ∷ xs) ys h = all_right xs ys (second (p x) _ h)
+
   pub all_tabulate : (n : ℕ) (f : ℕ → A) → ((k : ℕ) → k < n → p (f k) ≡ true) → all p (tabulate n f) ≡ true
   unfolding all tabulate
   all_tabulate zero f h = refl

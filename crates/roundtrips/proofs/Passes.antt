@@ -1,7 +1,7 @@
 -- What comes back of a book and a claim without a fault has no fault either.
 -- Assumes nothing.
-use Prim.Native.Nat.{ℕ, ◌+◌, ◌*◌, ◌≤◌, ◌<◌, zero-le}
-use mathlib.Core.Path.{◌≡◌, refl, sym, ap, ◌∙◌}
+use Prim.Native.Nat.{ℕ, zero, suc, ◌+◌, ◌*◌, ◌≤◌, ◌<◌, zero-le}
+use mathlib.Core.Path.{◌≡◌, refl, sym, ap, ap₂, ◌∙◌}
 use mathlib.Core.Logic.{⊎_elim}
 use mathlib.Core.Bool.{Bool, true, false, not, ◌&&◌}
 use mathlib.Core.List.{List, [], ◌∷◌, map, Memᴰ}
@@ -17,14 +17,17 @@ use Rattle.wellfounded.specs.Definitions.{Rule}
 use Rattle.wellfounded.proofs.Tests.{both, first, second, not_both}
 use Rattle.wellfounded.proofs.Lists.{all_make, member_entry}
 use Rattle.wellfounded.proofs.Sums.{sum_within}
-use Rattle.tables.specs.Limits.{max_bound, max_minutes, max_literals, max_terms}
+use Rattle.tables.specs.Limits.{max_group, max_bound, max_minutes, max_literals, max_terms}
 use Rattle.tables.specs.Faults.{Test, Absent}
-use Rattle.tables.specs.Rows.{rule_count, rule_head, rule_start, rule_size, rule_body, rule_at, rules_of, literals_by_rule, clause_count, clause_start, clause_size, clause_at, clauses_of}
+use Rattle.tables.specs.Rows.{rule_count, rule_head, rule_start, rule_size, rule_body, rule_at, rules_of, group_count, rows_by_group, literals_by_rule}
+use Rattle.tables.specs.Rows.{clause_count, clause_start, clause_size, clause_at, clauses_of}
 use Rattle.tables.specs.Loads.{Load, load_count, index_of, load_low, load_high, load_start, load_size, term_at, terms_at, load_at, loads_of}
-use Rattle.tables.specs.Sound.{Tables, lent, claim_slices, table_tests, bad_rule_row, bad_clause_row, bad_literal, bad_term, slice_test, Sound, Sizes, LoadRowFits, MarksFit}
+use Rattle.tables.specs.Sound.{Tables, lent, claim_slices, table_tests, bad_rule_row, bad_clause_row, bad_literal, bad_term, above_group, slice_test, Sound, Sizes, LoadRowFits, MarksFit}
 use Rattle.tables.proofs.Faults.{absent_none, absent_more}
-use Rattle.tables.proofs.SoundTables.{rule_row_fault, clause_row_fault, literal_fault, term_fault, load_row_fault, sizes_fault, slices_fit, slices_absent, sized_none, sized_more}
-use Rattle.tables.proofs.SoundTables.{sound_sizes, sound_rules, sound_loads, sound_load_rows, sound_minutes, lent_tables_lem, lent_slices_lem, lent_marks, lent_none}
+use Rattle.tables.proofs.GroupLaws.{group_counted, few_groups_lem}
+use Rattle.tables.proofs.RowOrder.{rows_all}
+use Rattle.tables.proofs.SoundTables.{rule_row_fault, clause_row_fault, literal_fault, term_fault, above_fault, load_row_fault, sizes_fault, slices_fit, slices_absent, sized_none, sized_more}
+use Rattle.tables.proofs.SoundTables.{sound_sizes, sound_rules, sound_loads, sound_load_rows, sound_minutes, sound_groups, lent_tables_lem, lent_slices_lem, lent_marks, lent_none}
 use Rattle.format.specs.Forms.{LiteralText, TermText, PairText, Form, atoms_form, claim_form}
 use Rattle.format.specs.Views.{view_of}
 use Rattle.items.specs.Items.{literal_code}
@@ -35,11 +38,10 @@ use Rattle.judging.specs.Books.{after_all}
 use Rattle.forms.specs.Contents.{Entry, Contents}
 use Rattle.forms.specs.Entries.{literals_in, terms_in, entries_of, given_anew, joined_by, joined, entries_from, book_entries}
 use Rattle.booktext.specs.UsedParts.{tables_of}
-use Rattle.writing.specs.BookForms.{literal_text, term_text, rule_form_of, clause_form_of, load_form_of, marked_atoms, defined_forms, pairs_of, book_forms}
+use Rattle.writing.specs.BookForms.{literal_text, term_text, rule_form_of, row_form, clause_form_of, load_form_of, marked_atoms, defined_forms, pairs_of, book_forms}
 use Rattle.writing.specs.Writing.{literals_by_row, terms_by_row}
-use Rattle.writing.proofs.WriteLaws.{one_sized}
 use Rattle.roundtrips.specs.RoundTrips.{taken_in, SameBook, Consecutive}
-use Rattle.roundtrips.proofs.ListTests.{all_both, all_tabulate, all_take, all_drop, all_entry, all_row, all_weaker, all_parts, all_map, all_rows}
+use Rattle.roundtrips.proofs.ListTests.{all_both, all_tabulate, all_take, all_drop, all_entry, all_row, all_weaker, all_parts, all_map, all_mapped, all_rows}
 use Rattle.roundtrips.proofs.Counted.{book_counted}
 use Rattle.roundtrips.proofs.Books.{rows_lie, taken_counted, book_sequence}
 use Rattle.roundtrips.proofs.Decoding.{literal_again}
@@ -100,9 +102,10 @@ module _ (n : ℕ) where
   defined_good [] = refl
   defined_good (a ∷ atoms) = refl
 
-  rule_good : (r : Rule) → all literal_good (map literal_text r.body) ≡ true → form_good (rule_form_of r) ≡ true
+  rule_good : (group : ℕ) (r : Rule) → all literal_good (map literal_text r.body) ≡ true → form_good (rule_form_of group r) ≡ true
   unfolding form_good view_of all rule_form_of
-  rule_good r h = rw h
+  rule_good zero r h = rw h
+  rule_good (suc group) r h = rw h
 
   clause_good : (c : List ℕ) → all literal_good (map literal_text c) ≡ true → form_good (clause_form_of c) ≡ true
   unfolding form_good view_of all clause_form_of
@@ -145,17 +148,17 @@ module _ (t : Tables) (none : (test : Test) → Memᴰ test (table_tests t) → 
       (literal_good_lem _ ((sound_loads t none).known _ place)) (le-leb _ _ (sound_minutes t none _ place)))
 
   forms_good : (values levels : List ℕ) → all (form_good t.atoms) (book_forms t values levels) ≡ true
-  unfolding book_forms rules_of rule_at rule_body clauses_of clause_at loads_of load_at
+  unfolding book_forms row_form rule_at rule_body clauses_of clause_at loads_of load_at
   forms_good values levels =
       let n = t.atoms in
       all_parts (form_good n) (atoms_form n) (defined_forms (marked_atoms n t.marks))
-      (map rule_form_of (rules_of t.rules t.literals)) (map clause_form_of (clauses_of t.clauses t.literals))
-      (map load_form_of (loads_of t.loads t.load_literals t.minutes)) (claim_form (pairs_of n 1 values levels))
+      (map (row_form t.rules t.literals) (rows_by_group t.rules)) (map clause_form_of (clauses_of t.clauses t.literals))
+      (map load_form_of (loads_of t.loads t.load_literals t.minutes)) (claim_form (pairs_of n (group_count t.rules) values levels))
       (atoms_good n n) (defined_good n (marked_atoms n t.marks))
-      (all_rows (form_good n) rule_form_of (rule_count t.rules) (rule_at t.rules t.literals) (λ row l. rule_good n _ (body_good _ _)))
+      (all_mapped (form_good n) (row_form t.rules t.literals) (λ row. rule_good n _ _ (body_good _ _)) (rows_by_group t.rules))
       (all_rows (form_good n) clause_form_of (clause_count t.clauses) (clause_at t.clauses t.literals) (λ row l. clause_good n _ (body_good _ _)))
       (all_rows (form_good n) load_form_of (load_count t.loads) (load_at t.loads t.load_literals t.minutes) (λ row l. load_good n _ (terms_good row l)))
-      (claim_good n (pairs_of n 1 values levels))
+      (claim_good n (pairs_of n (group_count t.rules) values levels))
 
 -- ── What comes back ──
 
@@ -205,7 +208,7 @@ module _
       let pass = entries_pass Minutes refl (short) (form_good t.atoms) (minutes_each t.atoms) start (book_forms t values levels) (forms_good t none values levels) in
       leb-true _ _ (all_entry (short) (pos 0) (entries_from start (book_forms t values levels) Minutes) pass place l)
 
-  module _ (size : ℕ) (same : SameBook t (tables_of size entries)) where
+  module _ (size : ℕ) (same : SameBook t (tables_of size entries)) (grouped : group_count (entries Rules) ≡ group_count t.rules) where
     atoms_same : size ≡ t.atoms
     unfolding tables_of lent
     atoms_same = same.atoms
@@ -235,8 +238,9 @@ module _
     unfolding tables_of lent rules_of rule_at
     heads row l =
         let fine : Rule → Bool = (λ r. ltb r.head t.atoms) in
-        let before : all fine (rules_of t.rules t.literals) ≡ true =
-        all_tabulate fine (rule_count t.rules) (rule_at t.rules t.literals) (λ k b. lt-ltb _ _ ((sound_rules t none).heads k b)) in
+        let before : all fine (map (rule_at t.rules t.literals) (rows_by_group t.rules)) ≡ true =
+        all_map fine (rule_at t.rules t.literals) (rows_by_group t.rules)
+        (rows_all t.rules (λ k. ltb (rule_head t.rules k) t.atoms) (λ k b. lt-ltb _ _ ((sound_rules t none).heads k b))) in
         let back : all fine (rules_of (entries Rules) (entries Literals)) ≡ true = ap (all fine) same.rules ∙ before in
         omega (arith, atoms_same, ltb-true (rule_head (entries Rules) row) t.atoms (all_row fine (rule_count (entries Rules)) (rule_at (entries Rules) (entries Literals)) back row l))
 
@@ -296,6 +300,12 @@ module _
         ⊎_elim (λ past. omega (arith, atoms_same, term_below place l))
         (λ far. omega (arith, minutes_short place (omega (arith, long Minutes, long LoadLiterals)))) ((term_fault size (entries LoadLiterals) (entries Minutes) place).0 h))
 
+    -- Groups are below as many as were written.
+    group_rows : (row : ℕ) → row < rule_count (entries Rules) → above_group max_group (entries Rules) row ≡ false
+    group_rows row l =
+        not_both _ (λ h.
+        omega (arith, group_counted (entries Rules) row l, grouped, few_groups_lem t (sound_groups t none), (above_fault max_group (entries Rules) row).0 h))
+
     tables_pass : (test : Test) → Memᴰ test (table_tests (tables_of size entries)) → Absent test
     unfolding table_tests tables_of lent
     tables_pass =
@@ -303,7 +313,8 @@ module _
         (absent_more (record { nowhere = rule_rows })
         (absent_more (record { nowhere = clause_rows_lem })
         (absent_more (record { nowhere = λ row l. ap not ((load_row_fault (entries Loads) (length (entries LoadLiterals)) row).1 (loads_fit_lem row l)) })
-        (absent_more (record { nowhere = literal_places }) (absent_more (record { nowhere = term_places }) absent_none)))))
+        (absent_more (record { nowhere = literal_places })
+        (absent_more (record { nowhere = term_places }) (absent_more (record { nowhere = group_rows }) absent_none))))))
 
     marks_fit : MarksFit (tables_of size entries)
     unfolding tables_of lent
@@ -316,7 +327,7 @@ module _
     claim_sized =
         let due = slices_fit (claim_slices t values levels) (lent_slices_lem t (claim_slices t values levels) sound.none) in
         slices_absent (claim_slices (tables_of size entries) values levels)
-        (sized_more (due _ (Memᴰ.head refl) ∙ sym atoms_same) (sized_more (due _ (Memᴰ.tail (Memᴰ.head refl)) ∙ one_sized _ _ ∙ sym atoms_same ∙ sym (one_sized _ _)) sized_none))
+        (sized_more (due _ (Memᴰ.head refl) ∙ sym atoms_same) (sized_more (due _ (Memᴰ.tail (Memᴰ.head refl)) ∙ sym (ap₂ (λ (m n : ℕ). m * n) grouped atoms_same)) sized_none))
 
     pub comes_back_sound : Sound (tables_of size entries) (claim_slices (tables_of size entries) values levels)
     comes_back_sound =

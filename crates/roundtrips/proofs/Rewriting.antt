@@ -13,7 +13,8 @@ use Rattle.tables.specs.declared.Verdict.{Verdict}
 use Rattle.tables.specs.declared.Verdict.TheVariants.{Accepted, Refused}
 use Rattle.tables.specs.Sound.{Tables}
 use Rattle.tables.proofs.Faults.{refused_accepted}
-use Rattle.judging.specs.declared.reached.Judged.TheVariants.{Failed}
+use Rattle.judging.specs.declared.reached.Reached.{Reached}
+use Rattle.judging.specs.declared.reached.Judged.TheVariants.{Passed, Failed}
 use Rattle.judging.specs.Judging.{max_bytes}
 use Rattle.forms.specs.Contents.{Contents}
 use Rattle.booktext.specs.declared.Book.{Book}
@@ -23,6 +24,10 @@ use Rattle.writing.specs.Writing.{write_of, Writes}
 use Rattle.roundtrips.specs.RoundTrips.{Writable, Rewrites}
 use Rattle.roundtrips.proofs.Written.{written_verdict, written_front}
 use Rattle.roundtrips.proofs.Theorems.{written_read}
+
+-- A refusal is no text that passes.
+pub failed_not_passed : {fault : Fault} {position : ℕ} {s : Reached} → Failed fault position ≡ Passed s → ⊥
+failed_not_passed e = let z : ◌≡◌ {A = ℕ} 0 1 = cc in omega arith
 
 -- The book by which a verdict of the writer is told; an accepted one is told by the reader, whatever stands here.
 told_by : Book → Verdict → Book

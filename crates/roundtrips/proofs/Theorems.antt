@@ -3,21 +3,23 @@
 use Prim.Native.Nat.{ℕ, ◌≤◌}
 use mathlib.Core.Path.{◌≡◌, refl, sym, ap, ◌∙◌}
 use mathlib.Core.Bool.{Bool, true, false, cond}
-use mathlib.Core.List.{List, [], ◌∷◌, ◌++◌}
+use mathlib.Core.List.{List, [], ◌∷◌, ◌++◌, map}
 use native.Mathlib.Omega.{arith}
 use lib.Dec.{eqb}
 use lib.ListN.{length, take}
 use borrow.Author.Tests.{eqb-true}
 use Rattle.wellfounded.specs.Lists.{all}
 use Rattle.tables.specs.declared.Verdict.TheVariants.{Accepted}
-use Rattle.tables.specs.Sound.{Tables, claim_slices, Sound}
+use Rattle.tables.specs.Rows.{rule_count, rule_at, rules_of, rule_group, group_count}
+use Rattle.tables.specs.Sound.{Tables, lent, claim_slices, Sound}
+use Rattle.tables.proofs.RowOrder.{rows_in_order}
 use Rattle.tables.proofs.SoundTables.{lent_tables_lem}
 use Rattle.format.specs.Forms.{Form, claim_form, render_all}
 use Rattle.format.specs.Views.{view_of}
 use Rattle.judging.specs.declared.reached.Reached.{Reached}
 use Rattle.judging.specs.declared.reached.Judged.{Judged}
 use Rattle.judging.specs.declared.reached.Judged.TheVariants.{Passed, Failed}
-use Rattle.judging.specs.LentTables.{Table, Values, Levels}
+use Rattle.judging.specs.LentTables.{Table, Rules, Values, Levels}
 use Rattle.judging.specs.States.{open_stood, claim_stood, start, groups_reached, count_in}
 use Rattle.judging.specs.Judging.{numbers_within, parts_in_order, levelled, judge_text, forms_of}
 use Rattle.judging.specs.Books.{after_all, InSequence, BookText}
@@ -32,13 +34,15 @@ use Rattle.booktext.specs.GivenEntries.{ClaimEntries}
 use Rattle.booktext.specs.UsedParts.{used_parts, tables_of}
 use Rattle.booktext.proofs.Filling.{used_counts}
 use Rattle.booktext.proofs.UsedLaws.{used_tables, used_values, used_levels}
+use Rattle.booktext.proofs.ReadGroups.{groups_rising, groups_read}
 use Rattle.booktext.proofs.FewLiterals.{answer_passed}
 use Rattle.booktext.proofs.GivenEntries.{claim_entries}
 use Rattle.writing.specs.declared.Written.{Written}
 use Rattle.writing.specs.BookForms.{text_of, book_forms}
 use Rattle.writing.specs.Writing.{write_of, written_of, buffer_after, Writes, TextFits}
+use Rattle.writing.proofs.PartLaws.{map_tabulate}
 use Rattle.writing.proofs.Theorems.{written_exactly}
-use Rattle.roundtrips.specs.RoundTrips.{HoldsBook, Writable, Consecutive, ReadBack, WrittenBack}
+use Rattle.roundtrips.specs.RoundTrips.{HoldsBook, Writable, groups_of, ByGroup, SameBook, Consecutive, ReadBack, WrittenBack}
 use Rattle.roundtrips.proofs.Counted.{Counted, book_counted}
 use Rattle.roundtrips.proofs.Books.{rows_lie}
 use Rattle.roundtrips.proofs.Consecutive.{book_consecutive}
@@ -57,6 +61,17 @@ written_read {t} {values} {levels} {before} {after} {written} {held} {tables} {b
     let passed = sym (written_verdict w) ∙ accepted in
     let k = (written_exactly t values levels (length before)).0 passed in
     read_back t values levels (length before) k.0 k.1 writable held holds book tables (rw (written_front w passed) at r)
+
+-- Where the groups of its rules never fall, the rules come back in the order of the table.
+pub same_order :
+    {t u : Tables} → ByGroup t.rules → SameBook t u →
+    (rules_of u.rules u.literals ≡ rules_of t.rules t.literals) × (groups_of u.rules ≡ groups_of t.rules)
+unfolding rules_of groups_of
+same_order {t} {u} rising same =
+    let order = rows_in_order t.rules rising.never_falls in (
+      same.rules ∙ (ap (map (rule_at t.rules t.literals)) order ∙ map_tabulate (rule_at t.rules t.literals) (rule_count t.rules) (λ row. row)),
+      same.groups ∙ (ap (map (rule_group t.rules)) order ∙ map_tabulate (rule_group t.rules) (rule_count t.rules) (λ row. row)),
+    )
 
 -- ── Read, then written ──
 
@@ -78,9 +93,10 @@ answer_claims (Failed fault at) e = let z : ◌≡◌ {A = ℕ} 0 2 = ap state_n
 again_from :
     (fs : List Form) (q : InSequence fs) → all (parts_in_order (after_all start fs)) fs ≡ true → all (numbers_within (after_all start fs)) fs ≡ true →
     all (levelled (after_all start fs)) fs ≡ true → (s : Reached) (gs : List Form) → s ≡ after_all start fs → gs ≡ fs → s.phase ≡ claim_stood →
-    ClaimEntries s.size (groups_reached s) (view_of q.state).pairs (book_entries gs) →
+    ByGroup (book_entries gs Rules) → group_count (book_entries gs Rules) ≡ groups_reached s → ClaimEntries s.size (groups_reached s) (view_of q.state).pairs (book_entries gs) →
     book_forms (tables_of s.size (book_entries gs)) (book_entries gs Values) (book_entries gs Levels) ≡ fs
-again_from fs q ordered numbers levels s gs e d stood entered = rw (e, d) (forms_again fs q ordered numbers levels (rw e at stood) (rw (e, d) at entered))
+again_from fs q ordered numbers levels s gs e d stood rising grouped entered =
+    rw (e, d) (forms_again fs q ordered numbers levels (rw e at stood) (rw d at rising) (rw (e, d) at grouped) (rw (e, d) at entered))
 
 written_back :
     (t : Tables) (values levels text before after : List ℕ) (written : Written) → write_of t values levels (length before) ≡ Accepted →
@@ -108,6 +124,10 @@ module _ (text : List ℕ) (held : Contents) (s : Reached) (passed : judge_text 
 
   opened : open_stood ≤ s.phase
   opened = rw found.2 (book_passed (space_of held) found.0 found.1.book).1
+
+  by_group : ByGroup (entries Rules)
+  unfolding entries
+  by_group = record { never_falls = groups_rising (space_of held) text s passed }
 
   in_order_lem : Consecutive (tables_of s.size entries)
   unfolding entries
@@ -143,7 +163,7 @@ module _ (text : List ℕ) (held : Contents) (s : Reached) (passed : judge_text 
         let ends : forms_of text ≡ before_state fs q ++ (claim_form (view_of q.state).pairs ∷ []) =
         found.3 ∙ (state_last fs q ∙ ap (λ (f : Form). before_state fs q ++ (f ∷ [])) (last_claim fs q ended)) in
         let entered = claim_entries (space_of held) text s passed (before_state fs q) (view_of q.state).pairs ends in
-        again_from fs q book.ordered book.numbers book.levels s (forms_of text) found.2 found.3 stood entered
+        again_from fs q book.ordered book.numbers book.levels s (forms_of text) found.2 found.3 stood by_group (groups_read (space_of held) text s passed) entered
 
     read_text : text_of (tables_of s.size entries) (entries Values) (entries Levels) ≡ text
     unfolding text_of
@@ -186,6 +206,15 @@ pub read_consecutive :
 read_consecutive {text} {held} {tables} {book} r accepted =
     let k = answer_passed (judge_text (space_of held) text) (ap (λ (b : Book). b.verdict) (sym r.answered) ∙ accepted) in
     rw (same_tables text held k.0 k.1 book tables r) (in_order_lem text held k.0 k.1)
+
+-- Its rules stand by rising group.
+pub read_by_group :
+    {text : List ℕ} {held tables : Contents} {book : Book} → Reads text held book tables → book.verdict ≡ Accepted →
+    ByGroup (tables_of book.atoms (used_parts book tables)).rules
+unfolding tables_of lent
+read_by_group {text} {held} {tables} {book} r accepted =
+    let k = answer_passed (judge_text (space_of held) text) (ap (λ (b : Book). b.verdict) (sym r.answered) ∙ accepted) in
+    rw (ap (λ (t : Tables). t.rules) (same_tables text held k.0 k.1 book tables r)) (by_group text held k.0 k.1)
 
 -- What was read of a text that ends with a claim, written to a buffer at least as long as the text, gives its bytes, if its tables pass.
 pub read_written :

@@ -1,36 +1,24 @@
 -- Sums over the rows of a table and over the lists that they decode to.
 -- Assumes nothing.
-use Prim.Native.Nat.{ℕ, zero, suc, ◌+◌, ◌≤◌, ◌<◌}
-use mathlib.Core.Path.{◌≡◌, refl, sym, ap, ◌∙◌}
-use mathlib.Core.List.{List, [], ◌∷◌, ◌++◌, map}
+use Prim.Native.Nat.{ℕ, ◌+◌, ◌≤◌, ◌<◌}
+use mathlib.Core.Path.{◌≡◌, ◌∙◌}
+use mathlib.Core.List.{List}
 use lib.IntN.{ℤ}
 use lib.ListN.{length}
-use Rattle.wellfounded.specs.Lists.{tabulate, sum_below}
-use Rattle.wellfounded.specs.Definitions.{Rule}
+use Rattle.wellfounded.specs.Lists.{sum_below}
 use Rattle.wellfounded.proofs.Lists.{length_tabulate}
-use Rattle.wellfounded.proofs.Sums.{sum_front, sum_same}
+use Rattle.wellfounded.proofs.Sums.{sum_same}
 use Rattle.wellfounded.proofs.Scan.{body_long}
-use Rattle.tables.specs.Rows.{rule_count, rule_start, rule_size, rule_body, rule_at, rules_of, literals_by_rule, clause_count, clause_start, clause_size, clause_at, clauses_of}
-use Rattle.tables.specs.Loads.{Term, Load, load_count, load_size, terms_at, load_at, loads_of}
-
-module _ {A : Type 0} where
-  -- How much the elements of a list come to.
-  unfoldable pub total : (A → ℕ) → List A → ℕ
-  total g [] = 0
-  total g (x ∷ xs) = g x + total g xs
-
-  pub total_tabulate : (g : A → ℕ) (n : ℕ) (f : ℕ → A) → total g (tabulate n f) ≡ sum_below n (λ k. g (f k))
-  unfolding total tabulate
-  total_tabulate g zero f = unfold sum_below in refl
-  total_tabulate g (suc n) f = ap (λ (m : ℕ). g (f 0) + m) (total_tabulate g n (λ k. f (suc k))) ∙ sym (sum_front n (λ k. g (f k)))
+use Rattle.tables.specs.Rows.{rule_count, rule_start, rule_size, rule_body, rule_at, rows_by_group, literals_by_rule, clause_count, clause_start, clause_size, clause_at, clauses_of}
+use Rattle.tables.specs.Loads.{Load, load_count, load_size, terms_at, load_at, loads_of}
+use Rattle.tables.proofs.RowOrder.{total, total_tabulate, rows_total}
 
 pub rules_total :
     (rules literals : List ℕ) → ((row : ℕ) → row < rule_count rules → rule_start rules row + rule_size rules row ≤ length literals) →
-    total (λ (r : Rule). length r.body) (rules_of rules literals) ≡ literals_by_rule rules
-unfolding rules_of rule_at rule_body literals_by_rule
+    total (λ (row : ℕ). length (rule_at rules literals row).body) (rows_by_group rules) ≡ literals_by_rule rules
+unfolding rule_at rule_body literals_by_rule
 rules_total rules literals within =
-    total_tabulate (λ (r : Rule). length r.body) (rule_count rules) (rule_at rules literals)
-    ∙ sum_same _ _ _ (λ row l. body_long literals _ _ (within row l))
+    rows_total rules (λ row. length (rule_at rules literals row).body) ∙ sum_same _ _ _ (λ row l. body_long literals _ _ (within row l))
 
 pub clauses_total :
     (clauses literals : List ℕ) → ((row : ℕ) → row < clause_count clauses → clause_start clauses row + clause_size clauses row ≤ length literals) →
@@ -48,10 +36,6 @@ loads_total loads load_literals minutes =
     ∙ sum_same _ _ _ (λ row l. length_tabulate _ _)
 
 -- The lists have an element for each row.
-pub rules_many : (rules literals : List ℕ) → length (rules_of rules literals) ≡ rule_count rules
-unfolding rules_of
-rules_many rules literals = length_tabulate _ _
-
 pub clauses_many : (clauses literals : List ℕ) → length (clauses_of clauses literals) ≡ clause_count clauses
 unfolding clauses_of
 clauses_many clauses literals = length_tabulate _ _

@@ -1,12 +1,12 @@
 -- A written text is read: it is accepted, and what it was written from comes back.
 -- Assumes nothing.
-use Prim.Native.Nat.{ℕ, ◌≤◌}
-use mathlib.Core.Path.{◌≡◌, refl, ap, ◌∙◌}
+use Prim.Native.Nat.{ℕ, ◌*◌, ◌≤◌}
+use mathlib.Core.Path.{◌≡◌, refl, sym, ap, ap₂, ◌∙◌}
 use mathlib.Core.List.{List, [], ◌∷◌, ◌++◌, map, append_assoc, append-nil, Memᴰ}
 use native.Mathlib.Omega.{arith}
 use lib.ListN.{length}
 use Rattle.tables.specs.Faults.{Test, Absent}
-use Rattle.tables.specs.Rows.{rules_of, clauses_of}
+use Rattle.tables.specs.Rows.{rule_at, rules_of, rule_group, group_count, rows_by_group, clauses_of}
 use Rattle.tables.specs.Loads.{loads_of}
 use Rattle.tables.specs.Sound.{Tables, lent, claim_slices, table_tests, MarksFit, Sound}
 use Rattle.tables.proofs.SoundTables.{lent_tables_lem, lent_slices_lem, lent_marks, slices_fit}
@@ -25,8 +25,8 @@ use Rattle.judging.proofs.Walking.{forms_all}
 use Rattle.judging.proofs.Accepted.{book_accepted, book_passed}
 use Rattle.forms.specs.Contents.{Contents, filled}
 use Rattle.forms.specs.Entries.{book_entries}
-use Rattle.forms.specs.Decoded.{declared_by, declared_in}
-use Rattle.forms.proofs.Decodes.{rules_decode, clauses_decode, loads_decode}
+use Rattle.forms.specs.Decoded.{rules_in, groups_in, declared_by, declared_in}
+use Rattle.forms.proofs.Decodes.{rules_decode, groups_decode, clauses_decode, loads_decode}
 use Rattle.forms.proofs.Marked.{marks_decode, declared_by_form}
 use Rattle.booktext.specs.declared.StateForm.TheVariants.{ClaimState}
 use Rattle.booktext.specs.declared.Book.{Book}
@@ -34,28 +34,30 @@ use Rattle.booktext.specs.Answers.{space_of, state_of, answer_of, contents_after
 use Rattle.booktext.specs.GivenEntries.{ClaimEntries}
 use Rattle.booktext.specs.UsedParts.{used_in, used_parts, tables_of}
 use Rattle.booktext.proofs.Filling.{room_held, used_counts}
-use Rattle.booktext.proofs.UsedLaws.{one_group_read, used_tables, used_values, used_levels}
+use Rattle.booktext.proofs.UsedLaws.{used_tables, used_values, used_levels}
+use Rattle.booktext.proofs.ReadGroups.{groups_read as groups-reached}
 use Rattle.booktext.proofs.GivenEntries.{claim_entries}
-use Rattle.writing.specs.BookForms.{marked_atoms, defined_forms, pairs_of, book_forms, text_of}
+use Rattle.writing.specs.BookForms.{row_form, marked_atoms, defined_forms, pairs_of, book_forms, text_of}
 use Rattle.writing.specs.Writing.{TextFits}
 use Rattle.writing.proofs.PartLaws.{map_tabulate}
-use Rattle.writing.proofs.WriteLaws.{one_sized}
-use Rattle.roundtrips.specs.RoundTrips.{taken_in, HoldsBook, Writable, SameBook, Consecutive, ReadBack}
+use Rattle.roundtrips.specs.RoundTrips.{taken_in, HoldsBook, Writable, groups_of, SameBook, Consecutive, ReadBack}
 use Rattle.roundtrips.proofs.Counted.{Counted, book_counted}
+use Rattle.roundtrips.proofs.BookRules.{book_rules, whole_book}
+use Rattle.roundtrips.proofs.GroupOrder.{forms_split}
 use Rattle.roundtrips.proofs.MarkedAtoms.{marks_again}
 use Rattle.roundtrips.proofs.Columns.{tabulate_entries, levels_again}
 use Rattle.roundtrips.proofs.Books.{rows_lie, taken_counted, book_sequence, book_is}
-use Rattle.roundtrips.proofs.Decoding.{rules_of_book, clauses_of_book, loads_of_book, rules_read, clauses_read, loads_read}
+use Rattle.roundtrips.proofs.Decoding.{rules_of_book, groups_of_book, clauses_of_book, loads_of_book, rules_read, groups_read, clauses_read, loads_read}
 use Rattle.roundtrips.proofs.Consecutive.{book_consecutive}
 use Rattle.roundtrips.proofs.Passes.{comes_back_sound}
 
 -- The state form of a book is its last.
 pub before_state : (fs : List Form) → InSequence fs → List Form
-before_state fs q = q.atoms ∷ (q.defined ++ (q.rules ++ (q.clauses ++ q.loads)))
+before_state fs q = q.atoms ∷ (q.defined ++ (book_rules fs q ++ (q.clauses ++ q.loads)))
 
 pub state_last : (fs : List Form) (q : InSequence fs) → fs ≡ before_state fs q ++ (q.state ∷ [])
 unfolding before_state
-state_last fs q = q.whole ∙ ap (λ (xs : List Form). q.atoms ∷ xs) (simp append_assoc)
+state_last fs q = whole_book fs q ∙ ap (λ (xs : List Form). q.atoms ∷ xs) (simp append_assoc)
 
 -- Values make pairs, and the pairs give them back.
 values_again :
@@ -74,9 +76,22 @@ module _ (t : Tables) (values levels : List ℕ) where
   forms : List Form
   forms = book_forms t values levels
 
-  forms_rules : rules_of (book_entries forms Rules) (book_entries forms Literals) ≡ rules_of t.rules t.literals
-  unfolding forms book_sequence
-  forms_rules = rules_decode forms ∙ (rules_of_book forms (book_sequence t values levels) ∙ rules_read (rules_of t.rules t.literals))
+  -- Its rules are the forms of the rows, by rising group.
+  forms_by_row : book_rules (book_forms t values levels) (book_sequence t values levels) ≡ map (row_form t.rules t.literals) (rows_by_group t.rules)
+  unfolding book_sequence book_rules
+  forms_by_row = sym (forms_split t.rules t.literals)
+
+  forms_rules : rules_of (book_entries forms Rules) (book_entries forms Literals) ≡ map (rule_at t.rules t.literals) (rows_by_group t.rules)
+  unfolding forms
+  forms_rules =
+      rules_decode forms
+      ∙ (rules_of_book forms (book_sequence t values levels) ∙ (ap rules_in forms_by_row ∙ rules_read t.rules t.literals (rows_by_group t.rules)))
+
+  forms_groups : groups_of (book_entries forms Rules) ≡ map (rule_group t.rules) (rows_by_group t.rules)
+  unfolding forms groups_of
+  forms_groups =
+      groups_decode forms
+      ∙ (groups_of_book forms (book_sequence t values levels) ∙ (ap groups_in forms_by_row ∙ groups_read t.rules t.literals (rows_by_group t.rules)))
 
   forms_clauses : clauses_of (book_entries forms Clauses) (book_entries forms Literals) ≡ clauses_of t.clauses t.literals
   unfolding forms book_sequence
@@ -129,11 +144,11 @@ module _
   unfolding entries reached
   counts = used_counts (space_of held) (book_forms t values levels) is_book
 
-  claim_entered : ClaimEntries reached.size (groups_reached reached) (pairs_of t.atoms 1 values levels) entries
+  claim_entered : ClaimEntries reached.size (groups_reached reached) (pairs_of t.atoms (group_count t.rules) values levels) entries
   unfolding entries book_sequence
   claim_entered =
       let q = book_sequence t values levels in
-      rw forms_told at (claim_entries (space_of held) (text_of t values levels) reached passed (before_state (book_forms t values levels) q) (pairs_of t.atoms 1 values levels)
+      rw forms_told at (claim_entries (space_of held) (text_of t values levels) reached passed (before_state (book_forms t values levels) q) (pairs_of t.atoms (group_count t.rules) values levels)
       (forms_told ∙ state_last (book_forms t values levels) q))
 
   -- The answer for the text, and the tables that it leaves.
@@ -145,7 +160,7 @@ module _
   taken =
       let k = taken_counted t none reached counted in
       each_table (λ table. used_in (answer_of (Passed reached)) table ≡ taken_in t table) (k Rules) (k Literals) (k Clauses) (k Loads) (k LoadLiterals)
-      (k Minutes) counted.size counted.size counted.size
+      (k Minutes) counted.size counted.size (ap₂ (λ (n m : ℕ). n * m) counted.size counted.groups)
 
   stood : open_stood ≤ reached.phase
   stood = omega (arith, counted.stood)
@@ -157,10 +172,10 @@ module _
   unfolding answer answer_of state_of
   claimed = rw counted.stood
 
-  valued : (length values ≡ t.atoms) × (length levels ≡ t.atoms)
+  valued : (length values ≡ t.atoms) × (length levels ≡ group_count t.rules * t.atoms)
   valued =
       let same = slices_fit (claim_slices t values levels) (lent_slices_lem t (claim_slices t values levels) sound.none) in
-      (same _ (Memᴰ.head refl), same _ (Memᴰ.tail (Memᴰ.head refl)) ∙ one_sized _ _)
+      (same _ (Memᴰ.head refl), same _ (Memᴰ.tail (Memᴰ.head refl)))
 
   same_book : SameBook t (tables_of reached.size entries)
   unfolding tables_of lent entries forms
@@ -168,6 +183,7 @@ module _
       record {
         atoms = counted.size;
         rules = forms_rules t values levels;
+        groups = forms_groups t values levels;
         clauses = forms_clauses t values levels;
         loads = forms_loads t values levels;
         marks = forms_marks t values levels (unfold reached in counted.size) (lent_marks t (claim_slices t values levels) sound.none);
@@ -177,26 +193,34 @@ module _
   unfolding entries
   in_order_lem = book_consecutive (book_forms t values levels) (book_sequence t values levels) reached.size
 
+  -- As many groups come back as there were.
+  grouped : group_count (entries Rules) ≡ group_count t.rules
+  unfolding entries
+  grouped =
+      ap (λ (fs : List Form). group_count (book_entries fs Rules)) (sym forms_told)
+      ∙ (groups-reached (space_of held) (text_of t values levels) reached passed ∙ counted.groups)
+
   all_passes : Sound (tables_of reached.size entries) (claim_slices (tables_of reached.size entries) values levels)
   unfolding entries reached
-  all_passes = comes_back_sound t values levels sound fits.few_literals fits.few_terms counts reached.size same_book
+  all_passes = comes_back_sound t values levels sound fits.few_literals fits.few_terms counts reached.size same_book grouped
 
   back : ReadBack t values levels (answer_of (Passed reached)) (filled entries held)
   unfolding answer answer_of
   back =
       let parts : tables_of reached.size (used_parts (answer_of (Passed reached)) (filled entries held)) ≡ tables_of reached.size entries =
       used_tables reached entries held counts stood in
-      let told : level_columns (groups_reached reached) (pairs_of t.atoms 1 values levels) ≡ levels =
-      ap (λ (groups : ℕ). level_columns groups (pairs_of t.atoms 1 values levels)) (one_group_read reached)
-      ∙ levels_again t.atoms 1 values levels (omega (arith, valued.1)) in
+      let told : level_columns (groups_reached reached) (pairs_of t.atoms (group_count t.rules) values levels) ≡ levels =
+      ap (λ (groups : ℕ). level_columns groups (pairs_of t.atoms (group_count t.rules) values levels)) counted.groups
+      ∙ levels_again t.atoms (group_count t.rules) values levels valued.1 in
       record {
         accepted = refl;
         claimed = claimed;
+        grouped = counted.groups;
         taken = taken;
         same = rw parts same_book;
         consecutive = rw parts in_order_lem;
         passes = rw parts all_passes;
-        same_values = used_values reached entries held counts stood ∙ (claim_entered.values ∙ values_again t.atoms 1 values levels valued.0);
+        same_values = used_values reached entries held counts stood ∙ (claim_entered.values ∙ values_again t.atoms (group_count t.rules) values levels valued.0);
         same_levels = used_levels reached entries held counts claim_stood_lem ∙ (claim_entered.levels ∙ told);
       }
 

@@ -1,10 +1,11 @@
 -- What comes back when a written text is read, and when what was read is written.
-use Rattle.std.specs.Prelude.{ℕ, ◌+◌, ◌≤◌, ◌<◌, ◌≡◌, List, pos, length, get_or}
-use Rattle.wellfounded.specs.Lists.{sum_below}
+use Rattle.std.specs.Prelude.{ℕ, suc, ◌+◌, ◌*◌, ◌≤◌, ◌<◌, ◌≡◌, List, map, pos, length, get_or}
+use Rattle.wellfounded.specs.Lists.{tabulate, sum_below}
 use Rattle.tables.specs.declared.Fault.{Fault}
 use Rattle.tables.specs.declared.Verdict.TheVariants.{Accepted, Refused}
 use Rattle.tables.specs.Limits.{max_value, max_level}
-use Rattle.tables.specs.Rows.{rule_count, rule_start, rule_size, rules_of, literals_by_rule, clause_count, clause_start, clause_size, clauses_of}
+use Rattle.tables.specs.Rows.{rule_count, rule_start, rule_size, rule_at, rules_of, rule_group, group_count, rows_by_group, literals_by_rule}
+use Rattle.tables.specs.Rows.{clause_count, clause_start, clause_size, clauses_of}
 use Rattle.tables.specs.Loads.{load_count, load_entry, load_size, loads_of}
 use Rattle.tables.specs.Sound.{Tables, claim_slices, Sound}
 use Rattle.judging.specs.declared.reached.Judged.TheVariants.{Failed}
@@ -20,7 +21,7 @@ use Rattle.writing.specs.BookForms.{text_of}
 use Rattle.writing.specs.Writing.{literals_by_row, terms_by_row, write_of}
 
 -- How many entries of each table a book and its claim take once they are written and read: as many rows as before, literals and terms
--- counted by row, and N marks, values and levels.
+-- counted by row, N marks and values, and N levels for each group.
 unfoldable pub taken_in : Tables → Table → ℕ
 taken_in t Rules = length t.rules
 taken_in t Literals = literals_by_row t.rules t.clauses
@@ -30,7 +31,7 @@ taken_in t LoadLiterals = terms_by_row t.loads
 taken_in t Minutes = terms_by_row t.loads
 taken_in t Marks = t.atoms
 taken_in t Values = t.atoms
-taken_in t Levels = t.atoms
+taken_in t Levels = t.atoms * group_count t.rules
 
 -- Lent tables that hold them.
 pub record HoldsBook (t : Tables) (held : Contents) : Type 0 where
@@ -41,10 +42,19 @@ pub record Writable (values levels : List ℕ) : Type 0 where
   pub small : (atom : ℕ) → get_or values atom 0 ≤ max_value
   pub low : (atom : ℕ) → get_or levels atom 0 ≤ max_level
 
--- Two books say the same: their atoms, the heads and bodies of rules, the clauses, the bounds and terms of load lines, and the marks.
+-- The groups of a table's rules, row by row; and that they never fall from one row to the next.
+unfoldable pub groups_of : List ℕ → List ℕ
+groups_of rules = tabulate (rule_count rules) (rule_group rules)
+
+pub record ByGroup (rules : List ℕ) : Type 0 where
+  pub never_falls : (row : ℕ) → suc row < rule_count rules → rule_group rules row ≤ rule_group rules (suc row)
+
+-- A book says again what another says: its atoms, the heads, bodies and groups of rules, the clauses, the bounds and terms of load lines, and the
+-- marks. The rules stand by rising group, and those of a group in their order.
 pub record SameBook (t u : Tables) : Type 0 where
   pub atoms : u.atoms ≡ t.atoms
-  pub rules : rules_of u.rules u.literals ≡ rules_of t.rules t.literals
+  pub rules : rules_of u.rules u.literals ≡ map (rule_at t.rules t.literals) (rows_by_group t.rules)
+  pub groups : groups_of u.rules ≡ map (rule_group t.rules) (rows_by_group t.rules)
   pub clauses : clauses_of u.clauses u.literals ≡ clauses_of t.clauses t.literals
   pub loads : loads_of u.loads u.load_literals u.minutes ≡ loads_of t.loads t.load_literals t.minutes
   pub marks : u.marks ≡ t.marks
@@ -59,10 +69,11 @@ pub record Consecutive (t : Tables) : Type 0 where
   pub loads : (row : ℕ) → row < load_count t.loads → load_entry t.loads row 2 ≡ pos (sum_below row (load_size t.loads))
 
 -- What was written comes back: the text is accepted with its claim, exactly the entries that it takes are used, and their parts of the tables
--- say the same, with consecutive rows and the same claim. What came back has no fault, so that it can be written again.
+-- say the same, with as many groups, consecutive rows and the same claim. What came back has no fault, so that it can be written again.
 pub record ReadBack (t : Tables) (values levels : List ℕ) (book : Book) (tables : Contents) : Type 0 where
   pub accepted : book.verdict ≡ Accepted
   pub claimed : book.state ≡ ClaimState
+  pub grouped : book.groups ≡ group_count t.rules
   pub taken : (table : Table) → used_in book table ≡ taken_in t table
   pub same : SameBook t (tables_of book.atoms (used_parts book tables))
   pub consecutive : Consecutive (tables_of book.atoms (used_parts book tables))

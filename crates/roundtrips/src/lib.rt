@@ -9,8 +9,8 @@ use tables::Verdict;
 use tables::sizes::MAX_BYTES;
 use writing::write;
 
-// Writes a book and its claim into a buffer of its own and reads them back into the same tables: rows become consecutive, each with
-// literals or terms of its own. What the writer refuses, or the tables do not hold, is refused with nothing written to them.
+// Writes a book and its claim into a buffer of its own and reads them back into the same tables: rules stand by rising group then, and rows become
+// consecutive, each with literals or terms of its own. What the writer refuses, or the tables do not hold, is refused with nothing written to them.
 pub fn rewrite(
     atoms: usize,
     rules: &mut [u16],

@@ -48,7 +48,7 @@ mapped [] i h = absurd (omega arith)
 mapped (t ∷ ts) zero h = refl
 mapped (t ∷ ts) (suc i) h = mapped ts i (omega arith)
 
-pub page_holds : (i : ℕ) → i < 12 → report_of (text_at i) ≡ page_at i
+pub page_holds : (i : ℕ) → i < 15 → report_of (text_at i) ≡ page_at i
 unfolding text_at page_at texts samples
 page_holds i h = sym (mapped texts i h) ∙ ap (λ (l : List (List ℕ)). get_or l i []) samples_hold
 
@@ -61,7 +61,7 @@ text_front i {before = before} {r = r} l p =
 
 -- What the report then writes is the page.
 pub page_front :
-    (i : ℕ) {text before afterwards : List ℕ} {r : ℕ} → i < 12 → page_size ≤ length before → text ≡ text_at i →
+    (i : ℕ) {text before afterwards : List ℕ} {r : ℕ} → i < 15 → page_size ≤ length before → text ≡ text_at i →
     Reported text before r afterwards → (take r afterwards ≡ page_at i) × (r ≤ page_size)
 unfolding over
 page_front i {text} {before} {r = r} h l e reported =
@@ -73,17 +73,17 @@ page_front i {text} {before} {r = r} h l e reported =
 -- The last sample is the one that is none of the others.
 abbrev pub NoneBefore : ℕ → Type 0
 NoneBefore i =
-    ((((((((((Unit {0} × (i ≡ 0 → ⊥)) × (i ≡ 1 → ⊥)) × (i ≡ 2 → ⊥)) × (i ≡ 3 → ⊥)) × (i ≡ 4 → ⊥)) × (i ≡ 5 → ⊥))
-    × (i ≡ 6 → ⊥)) × (i ≡ 7 → ⊥)) × (i ≡ 8 → ⊥)) × (i ≡ 9 → ⊥)) × (i ≡ 10 → ⊥)
+    (((((((((((((Unit {0} × (i ≡ 0 → ⊥)) × (i ≡ 1 → ⊥)) × (i ≡ 2 → ⊥)) × (i ≡ 3 → ⊥)) × (i ≡ 4 → ⊥)) × (i ≡ 5 → ⊥)) × (i ≡ 6 → ⊥)) × (i ≡ 7 → ⊥)) × (i ≡ 8 → ⊥)) × (i ≡ 9 → ⊥)) × (i ≡ 10 → ⊥)) × (i ≡ 11 → ⊥)) × (i ≡ 12 → ⊥)) × (i ≡ 13 → ⊥)
 
 at_least : {i : ℕ} (k : ℕ) → k ≤ i → (i ≡ k → ⊥) → suc k ≤ i
 at_least k l n = omega arith
 
-at_most : (i : ℕ) → i < 12 → 11 ≤ i → i ≡ 11
+at_most : (i : ℕ) → i < 15 → 14 ≤ i → i ≡ 14
 at_most i h l = omega arith
 
-pub last : (i : ℕ) → i < 12 → NoneBefore i → i ≡ 11
-last i h (((((((((((u, n0), n1), n2), n3), n4), n5), n6), n7), n8), n9), n10) =
+pub last : (i : ℕ) → i < 15 → NoneBefore i → i ≡ 14
+last i h ((((((((((((((u, n0), n1), n2), n3), n4), n5), n6), n7), n8), n9), n10), n11), n12), n13) =
     let five : 5 ≤ i = at_least 4 (at_least 3 (at_least 2 (at_least 1 (at_least 0 (omega arith) n0) n1) n2) n3) n4 in
-    let eleven : 11 ≤ i = at_least 10 (at_least 9 (at_least 8 (at_least 7 (at_least 6 (at_least 5 five n5) n6) n7) n8) n9) n10 in
-    at_most i h eleven
+    let ten : 10 ≤ i = at_least 9 (at_least 8 (at_least 7 (at_least 6 (at_least 5 five n5) n6) n7) n8) n9 in
+    let fourteen : 14 ≤ i = at_least 13 (at_least 12 (at_least 11 (at_least 10 ten n10) n11) n12) n13 in
+    at_most i h fourteen

@@ -1,4 +1,4 @@
--- P1 to P10 hold: the report of each text is its page, by computing both.
+-- P1 to P10, T1 and T3 hold: the report of each text is its page, by computing both.
 -- Assumes nothing.
 use mathlib.Core.Path.{◌≡◌, refl}
 use mathlib.Core.List.{map}

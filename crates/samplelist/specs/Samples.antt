@@ -1,4 +1,4 @@
--- P1 to P10 of the paper: calls on a text, each with the page that the program prints for it.
+-- P1 to P10, T1 and T3 of the paper: calls on a text, each with the page that the program prints for it.
 use Rattle.std.specs.Prelude.{ℕ, List, [], ◌∷◌, ◌++◌, map, get_or}
 use Prim.Native.Char.{code}
 use Prim.Native.String.{String}
@@ -48,6 +48,12 @@ samples =
     -- P10
     prints (bytes "(atoms 4)\n(rule 1 0)\n(rule 1 2)\n(rule 2 1)\n(rule 3 (not 1))\n(clause 1 3)\n" ++ bytes "(load 0 9 (60 3))\n(open)\n")
     "(made 2)\n(atom 0 0 0)\n(atom 1 0 1)\n(atom 2 0 1)\n(atom 3 1 2)\n(refused 27 0)\n" ∷
+    -- T1, both true
+    prints (bytes "(atoms 2)\n(rule 0 1)\n(also 1 1 0)\n(claim (1 1 0) (1 0 1))\n") "(accepted)\n" ∷
+    -- T1, both false
+    prints (bytes "(atoms 2)\n(rule 0 1)\n(also 1 1 0)\n(claim (0 1 0) (0 0 1))\n") "(accepted)\n" ∷
+    -- T3
+    prints (bytes "(atoms 3)\n(rule 0 1)\n(also 1 0)\n(clause (not 1) 2)\n(claim (1 1 1) (1 0 0) (1 0 0))\n") "(accepted)\n" ∷
     []
 
 -- The texts, and the pages.

@@ -1,4 +1,4 @@
-// P1 to P10 of the paper, as the list of specs/Samples.antt has them: their texts, and the pages of the real calls on them.
+// P1 to P10, T1 and T3 of the paper, as the list of specs/Samples.antt has them: their texts, and the pages of the real calls on them.
 ghost use Rattle.std.specs.Prelude.{◌≤◌, ◌<◌, ◌≡◌, ◌++◌, length, take};
 ghost use Rattle.page.specs.Pages.{page_size};
 ghost use Rattle.printing.specs.internal.Putting.{Puts};
@@ -8,7 +8,7 @@ use printing::put;
 use report::report;
 
 // How many samples there are.
-pub const SAMPLES: usize = 12;
+pub const SAMPLES: usize = 15;
 
 // Puts book A with a state form at the front of the buffer.
 fn put_book_a(buffer: &mut [u8], state: &[u8]) -> usize
@@ -25,7 +25,7 @@ fn put_book_a(buffer: &mut [u8], state: &[u8]) -> usize
 
 // Puts the text of a sample at the front of the buffer, and answers its length.
 fn put_text(sample: usize, buffer: &mut [u8]) -> usize
-    requires { (sample < 12) × (200 ≤ length buffer.old) }
+    requires { (sample < 15) × (200 ≤ length buffer.old) }
     ensures { Puts buffer.old 0 (text_at sample) result buffer.new }
 {
     match sample {
@@ -48,17 +48,32 @@ fn put_text(sample: usize, buffer: &mut [u8]) -> usize
             b"(atoms 2)\n(rule 0 (not 1))\n(rule 1 (not 0))\n(claim (1 1) (0 1))\n",
         ),
         10 => put(buffer, 0, b"(atoms 1)\n(rule 0)\n(claim (1 2))\n"),
-        _ => put(
+        11 => put(
             buffer,
             0,
             b"(atoms 4)\n(rule 1 0)\n(rule 1 2)\n(rule 2 1)\n(rule 3 (not 1))\n(clause 1 3)\n(load 0 9 (60 3))\n(open)\n",
+        ),
+        12 => put(
+            buffer,
+            0,
+            b"(atoms 2)\n(rule 0 1)\n(also 1 1 0)\n(claim (1 1 0) (1 0 1))\n",
+        ),
+        13 => put(
+            buffer,
+            0,
+            b"(atoms 2)\n(rule 0 1)\n(also 1 1 0)\n(claim (0 1 0) (0 0 1))\n",
+        ),
+        _ => put(
+            buffer,
+            0,
+            b"(atoms 3)\n(rule 0 1)\n(also 1 0)\n(clause (not 1) 2)\n(claim (1 1 1) (1 0 0) (1 0 0))\n",
         ),
     }
 }
 
 // Puts the report of a sample's text at the front of the page, and answers its length.
 pub fn put_sample_page(sample: usize, page: &mut [u8]) -> usize
-    requires { (sample < 12) × (page_size ≤ length page.old) }
+    requires { (sample < 15) × (page_size ≤ length page.old) }
     ensures { (take result page.new ≡ page_at sample) × (result ≤ page_size) }
 {
     let mut text = [0u8; 200];

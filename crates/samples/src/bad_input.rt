@@ -31,9 +31,9 @@ fn claim(name: &[u8], rules: &[u16], literals: &[u16], clauses: &[u16], level: u
     show(name, verdict);
 }
 
-// One rule row over one literal.
+// One rule row of group 0 over one literal.
 fn rule_row(name: &[u8], head: u16, start: u16, size: u16) {
-    let rules = [head, start, size];
+    let rules = [head, start, size, 0];
     let literals = [0u16];
     let clauses = [0u16; 0];
     claim(name, &rules, &literals, &clauses, 1);
@@ -106,7 +106,7 @@ fn values_and_levels(name: &[u8], first: u8, second: u8, first_level: u16, secon
     let none = [0u16; 0];
     let no_loads = [0i32; 0];
     let no_minutes = [0i16; 0];
-    let rules = [1u16, 0, 0];
+    let rules = [1u16, 0, 0, 0];
     let marks = [0u8; 2];
     let values = [first, second];
     let levels = [first_level, second_level];
@@ -128,7 +128,7 @@ fn values_and_levels(name: &[u8], first: u8, second: u8, first_level: u16, secon
 // Rows that overlap in the literal table, with a literal twice and with its complement: (rule 1 0 0 (not 0)),
 // (rule 1 0 (not 0)), (clause 0 0), (clause 0 (not 0)).
 fn overlapping(name: &[u8], first: u8, second: u8) {
-    let rules = [1u16, 0, 3, 1, 1, 2];
+    let rules = [1u16, 0, 3, 0, 1, 1, 2, 0];
     let literals = [0u16, 0, 1];
     let clauses = [0u16, 2, 1, 2];
     let no_loads = [0i32; 0];
@@ -218,9 +218,9 @@ fn run_atoms() {
 fn run_rule_sizes() {
     sizes(b"16384-literals", 0, 16384, 0);
     sizes(b"16385-literals", 0, 16385, 0);
-    sizes(b"2048-rules-at-level-0", 6144, 0, 0);
-    sizes(b"2049-rules", 6147, 0, 0);
-    sizes(b"no-whole-rule-rows", 4, 0, 0);
+    sizes(b"2048-rules-at-level-0", 8192, 0, 0);
+    sizes(b"2049-rules", 8196, 0, 0);
+    sizes(b"no-whole-rule-rows", 3, 0, 0);
 }
 
 // The same of clauses, and minutes that are missing.

@@ -17,14 +17,14 @@ fn chain_atom(row: usize, falling: bool) -> u16
 }
 
 // Rule rows by rising head, or by falling head; literal k stands for atom k, negated or not.
-fn chain_rules(falling: bool) -> [u16; 3069] {
-    let mut rules = [0u16; 3069];
+fn chain_rules(falling: bool) -> [u16; 4092] {
+    let mut rules = [0u16; 4092];
     let mut row = 0;
     while row < 1023 {
         let atom = chain_atom(row, falling);
-        rules[row * 3] = atom + 1;
-        rules[row * 3 + 1] = atom;
-        rules[row * 3 + 2] = 1;
+        rules[row * 4] = atom + 1;
+        rules[row * 4 + 1] = atom;
+        rules[row * 4 + 2] = 1;
         row += 1;
     }
     rules

@@ -10,7 +10,7 @@ fn show(name: &[u8], verdict: Verdict) {
 
 // Book A: (rule 1 0), (rule 1 2), (rule 2 1), (rule 3 (not 1)), (clause 1 3), (load 0 HIGH (60 3)).
 fn book_a(high: i32, values: &[u8], levels: &[u16]) -> Verdict {
-    let rules = [1u16, 0, 1, 1, 1, 1, 2, 2, 1, 3, 3, 1];
+    let rules = [1u16, 0, 1, 0, 1, 1, 1, 0, 2, 2, 1, 0, 3, 3, 1, 0];
     let literals = [0u16, 4, 2, 3, 2, 6];
     let clauses = [4u16, 2];
     let loads = [0i32, high, 0, 1];
@@ -59,21 +59,21 @@ fn rules_alone(
 
 // One atom with the rule `(rule 0 0)`.
 fn self_support(values: &[u8], levels: &[u16]) -> Verdict {
-    let rules = [0u16, 0, 1];
+    let rules = [0u16, 0, 1, 0];
     let literals = [0u16];
     rules_alone(1, &rules, &literals, &[0u8], values, levels)
 }
 
 // One atom with the fact `(rule 0)`.
 fn fact(values: &[u8], levels: &[u16]) -> Verdict {
-    let rules = [0u16, 0, 0];
+    let rules = [0u16, 0, 0, 0];
     let literals = [0u16; 0];
     rules_alone(1, &rules, &literals, &[0u8], values, levels)
 }
 
 // `(rule 0 (not 1))` and `(rule 1 (not 0))`.
 fn either_or(values: &[u8], levels: &[u16]) -> Verdict {
-    let rules = [0u16, 0, 1, 1, 1, 1];
+    let rules = [0u16, 0, 1, 0, 1, 1, 1, 0];
     let literals = [3u16, 1];
     rules_alone(2, &rules, &literals, &[0u8, 0], values, levels)
 }

@@ -17,7 +17,7 @@ fn show(name: &[u8], answer: Answer, values: &[u8], levels: &[u16]) {
 // Book A: (rule 1 0), (rule 1 2), (rule 2 1), (rule 3 (not 1)), (clause 1 3), (load 0 HIGH (60 3)). The slices hold
 // numbers on entry that the evaluation must not leave.
 fn book_a(name: &[u8], high: i32, open_values: &[u8]) {
-    let rules = [1u16, 0, 1, 1, 1, 1, 2, 2, 1, 3, 3, 1];
+    let rules = [1u16, 0, 1, 0, 1, 1, 1, 0, 2, 2, 1, 0, 3, 3, 1, 0];
     let literals = [0u16, 4, 2, 3, 2, 6];
     let clauses = [4u16, 2];
     let loads = [0i32, high, 0, 1];
@@ -71,9 +71,9 @@ fn one_atom(name: &[u8], rules: &[u16], literals: &[u16]) {
 pub fn run_evaluations() {
     book_a(b"P1", 10, &[0u8, 0, 0, 0]);
     book_a(b"P2", 10, &[1u8, 0, 0, 0]);
-    one_atom(b"P5", &[0u16, 0, 1], &[1u16]);
-    one_atom(b"P6-made", &[0u16, 0, 1], &[0u16]);
-    one_atom(b"P7-made", &[0u16, 0, 0], &[0u16; 0]);
+    one_atom(b"P5", &[0u16, 0, 1, 0], &[1u16]);
+    one_atom(b"P6-made", &[0u16, 0, 1, 0], &[0u16]);
+    one_atom(b"P7-made", &[0u16, 0, 0, 0], &[0u16; 0]);
     book_a(b"P10-made", 9, &[0u8, 0, 0, 0]);
     book_a(b"defined-atom-set", 10, &[0u8, 1, 0, 0]);
 }

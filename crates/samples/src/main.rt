@@ -6,6 +6,7 @@ mod bad_input;
 mod chains;
 mod claims;
 mod evaluated;
+mod groups;
 mod marks;
 mod pages;
 mod paper;
@@ -18,4 +19,5 @@ fn main() {
     bad_input::run_bad_input();
     chains::run_chains();
     marks::run_marks();
+    groups::run_groups();
 }

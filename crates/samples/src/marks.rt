@@ -5,7 +5,7 @@ use shown::{end_line, show_levels, show_number, show_values, show_verdict};
 
 // A claim on the two atoms.
 fn claim(name: &[u8], marks: &[u8], values: &[u8], levels: &[u16]) {
-    let rules = [1u16, 0, 1];
+    let rules = [1u16, 0, 1, 0];
     let literals = [1u16];
     let none = [0u16; 0];
     let no_loads = [0i32; 0];
@@ -28,7 +28,7 @@ fn claim(name: &[u8], marks: &[u8], values: &[u8], levels: &[u16]) {
 
 // An evaluation with these open values. The slices hold numbers on entry that it leaves only if it is refused.
 fn made(name: &[u8], marks: &[u8], open_values: &[u8]) {
-    let rules = [1u16, 0, 1];
+    let rules = [1u16, 0, 1, 0];
     let literals = [1u16];
     let none = [0u16; 0];
     let no_loads = [0i32; 0];

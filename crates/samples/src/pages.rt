@@ -26,4 +26,8 @@ pub fn run_pages() {
         b"page-levels-and-values",
         b"(atoms 9)\n(rule 0 (not 0))\n(rule 3 1)\n(rule 4 2)\n(rule 5 5)\n(rule 6)\n(rule 7 (not 4))\n(rule 8 6)\n(open 2)\n",
     );
+    show_page(
+        b"page-rule-of-group-1",
+        b"(atoms 2)\n(rule 0)\n(rule 1 0)\n(also 1 1 0)\n(open)\n",
+    );
 }

@@ -1,4 +1,4 @@
-// The samples of the paper: P1 to P10 from their list, and those that it only has run.
+// The samples of the paper: P1 to P10, T1 and T3 from their list, and those that it only has run.
 ghost use Rattle.std.specs.Prelude.{◌<◌};
 
 use outcome::outcome_of;
@@ -7,7 +7,7 @@ use shown::{end_line, show_number, show_verdict};
 
 // A line with the sample's place in the list, and its page.
 fn show_sample(sample: usize)
-    requires { sample < 12 }
+    requires { sample < 15 }
 {
     show_number(b"sample ", sample);
     end_line();

@@ -9,13 +9,14 @@ use native.Mathlib.Omega.{arith}
 use native.Mathlib.Nat.{eq-or-lt_of_le, le_of_suc-le-suc}
 use native.Mathlib.Numerals.{add-one}
 use lib.Dec.{ltb}
-use lib.ListN.{length, take, drop, length-append, length-drop}
-use lib.Seq.{take_all, drop-append_seam, drop-append-le, take-append-le}
+use lib.ListN.{length, get_or, take, drop, length-append, length-drop}
+use lib.Seq.{get_or-take, get_or-drop, take_all, drop-append_seam, drop-append-le, take-append-le}
 use borrow.Author.Tests.{ltb-true, ltb-false, lt-ltb, le-ltb}
 use Rattle.wellfounded.specs.Lists.{highest_below, join_below}
 use Rattle.wellfounded.proofs.Tests.{decided}
 use Rattle.tables.specs.Rows.{rule_count, rule_group, in_group, group_count, rows_of}
-use Rattle.tables.specs.Sound.{group_levels}
+use Rattle.tables.specs.Limits.{max_group, max_groups}
+use Rattle.tables.specs.Sound.{Tables, group_levels, OneGroup, GroupsFit}
 use Rattle.tables.specs.internal.Fields.{Field}
 
 -- ── Rows ──
@@ -105,13 +106,21 @@ pub some_group : (rules : List ℕ) → 0 < group_count rules
 unfolding group_count
 some_group rules = omega arith
 
--- As rows have no number for their group yet, there is no other.
-pub one_group : (rules : List ℕ) → group_count rules ≡ 1
-unfolding group_count rule_group
-one_group rules =
-    ⊎_elim (λ (none : highest_below (rule_count rules) (rule_group rules) ≡ 0). ap suc none)
-    (λ (found : (row : ℕ) × (row < rule_count rules) × (rule_group rules row ≡ highest_below (rule_count rules) (rule_group rules))). ap suc (sym found.2))
+-- There are at most as many groups as their numbers allow.
+pub groups_bound : (rules : List ℕ) (high : ℕ) → ((row : ℕ) → row < rule_count rules → rule_group rules row ≤ high) → group_count rules ≤ suc high
+unfolding group_count
+groups_bound rules high each =
+    ⊎_elim (λ (none : highest_below (rule_count rules) (rule_group rules) ≡ 0). omega arith)
+    (λ (found : (row : ℕ) × (row < rule_count rules) × (rule_group rules row ≡ highest_below (rule_count rules) (rule_group rules))).
+    omega (arith, found.2, each found.0 found.1))
     (highest_met (rule_count rules) (rule_group rules))
+
+-- Sound tables have at most eight groups, and a book of group 0 has one.
+pub few_groups_lem : (t : Tables) → GroupsFit t → group_count t.rules ≤ max_groups
+few_groups_lem t fit = groups_bound t.rules max_group fit.small
+
+pub one_group : (t : Tables) → OneGroup t → group_count t.rules ≡ 1
+one_group t one = omega (arith, groups_bound t.rules 0 (λ row l. omega (arith, one.zero row l)), some_group t.rules)
 
 -- The search for the highest group has passed some rows.
 pub record Highest (f : ℕ → ℕ) (rows row high : ℕ) : Type 0 where
@@ -161,6 +170,12 @@ part_within atoms group zero l = absurd (omega arith)
 part_within atoms group (suc groups) l =
     ⊎_elim (λ (e : group ≡ groups). rw e (omega arith)) (λ (b : group < groups). omega (arith, part_within atoms group groups b))
     (eq-or-lt_of_le (le_of_suc-le-suc l))
+
+-- The level of an atom in a group is entry group × N + atom.
+pub level_entry :
+    (atoms : ℕ) (levels : List ℕ) (group atom : ℕ) → atom < atoms → get_or (group_levels atoms levels group) atom 0 ≡ get_or levels (group * atoms + atom) 0
+unfolding group_levels
+level_entry atoms levels group atom l = get_or-take atoms (drop (group * atoms) levels) atom 0 l ∙ get_or-drop (group * atoms) levels atom 0
 
 -- Levels that are joined group by group have each group's as its part.
 module _ (atoms : ℕ) (f : ℕ → List ℕ) where

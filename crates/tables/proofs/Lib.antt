@@ -10,5 +10,6 @@ pub mod RowFaults
 pub mod MarkLaws
 pub mod TotalLaws
 pub mod GroupLaws
+pub mod RowOrder
 pub mod RowLaws
 pub mod Computes

@@ -12,9 +12,9 @@ use Rattle.tables.specs.Limits.{max_position}
 use Rattle.tables.specs.Faults.{position_of, lowest, Test, refused_or, first_fault, Absent}
 use Rattle.tables.specs.Rows.{rule_count, clause_count, definition_of}
 use Rattle.tables.specs.Loads.{load_count}
-use Rattle.tables.specs.Sound.{Tables, group_of, book_of, table_tests, Slice, lent_tests, slice_test, mark_count_test, mark_test, Sizes}
+use Rattle.tables.specs.Sound.{Tables, group_of, book_of, table_tests, Slice, lent_tests, lent_one_group_tests, other_group_test, one_group_tests, slice_test, mark_count_test, mark_test, Sizes}
 use Rattle.tables.proofs.Faults.{lowest_at, nothing_absent, accepted_absent}
-use Rattle.tables.proofs.SoundTables.{sizes_fault}
+use Rattle.tables.proofs.SoundTables.{sizes_fault, lent_order, one_group_order}
 
 -- A test before others whose position is small if this one finds nothing.
 pub position_more :
@@ -44,10 +44,10 @@ position_none = omega arith
 
 module _ (t : Tables) where
   -- Tables that are not refused for their sizes have small ones.
-  pub passed_sizes : (others : List Slice) (more : List Test) → first_fault (lent_tests t others ++ more) ≡ Accepted → Sizes t
-  unfolding lent_tests table_tests
+  pub passed_sizes : (others : List Slice) (more : List Test) → first_fault (lent_one_group_tests t others ++ more) ≡ Accepted → Sizes t
+  unfolding lent_one_group_tests one_group_tests table_tests
   passed_sizes others more e =
-      (sizes_fault t).0 (not-false _ ((accepted_absent (lent_tests t others ++ more) e _ (Memᴰ.head refl)).nowhere 0 (omega arith)))
+      (sizes_fault t).0 (not-false _ ((accepted_absent (lent_one_group_tests t others ++ more) e _ (Memᴰ.head refl)).nowhere 0 (omega arith)))
 
   module _ (z : Sizes t) where
     pub few_rules_lem : rule_count t.rules ≤ suc max_position
@@ -73,14 +73,34 @@ module _ (t : Tables) where
     unfolding book_of
     few_in_book = few_in_group 0
 
-  -- The tests of what is lent, before others whose position is small where the tables have the sizes that they may have.
-  pub lent_position :
-      (others : List Slice) (more : List Test) → (Sizes t → position_of (first_fault more) ≤ max_position) →
-      position_of (first_fault (lent_tests t others ++ more)) ≤ max_position
-  unfolding lent_tests table_tests slice_test mark_count_test mark_test
-  lent_position others more later =
+  -- The tests of the tables, before others whose position is small where the tables have the sizes that they may have.
+  tables_position :
+      (more : List Test) → (Sizes t → position_of (first_fault more) ≤ max_position) → position_of (first_fault (table_tests t ++ more)) ≤ max_position
+  unfolding table_tests
+  tables_position more later =
       position_more _ _ (omega arith) (λ a.
       let z = (sizes_fault t).0 (not-false _ (a.nowhere 0 (omega arith))) in
       position_more _ _ (few_rules_lem z) (λ b. position_more _ _ (few_clauses_lem z) (λ c. position_more _ _ (few_loads_lem z) (λ e.
       position_more _ _ (omega (arith, z.few_literals)) (λ f. position_more _ _ (omega (arith, z.few_terms)) (λ g.
-      position_more _ _ (omega arith) (λ h. position_more _ _ (omega arith) (λ i. position_more _ _ (few_atoms_lem z) (λ j. later z)))))))))
+      position_more _ _ (few_rules_lem z) (λ h. later z)))))))
+
+  beside_position :
+      (others : List Slice) (more : List Test) → Sizes t → position_of (first_fault more) ≤ max_position →
+      position_of (first_fault (slice_test others ∷ mark_count_test t ∷ mark_test t ∷ more)) ≤ max_position
+  unfolding slice_test mark_count_test mark_test
+  beside_position others more z later =
+      position_more _ _ (omega arith) (λ a. position_more _ _ (omega arith) (λ b. position_more _ _ (few_atoms_lem z) (λ c. later)))
+
+  -- The tests of what is lent, before such others.
+  pub lent_position :
+      (others : List Slice) (more : List Test) → (Sizes t → position_of (first_fault more) ≤ max_position) →
+      position_of (first_fault (lent_tests t others ++ more)) ≤ max_position
+  lent_position others more later = rw lent_order (tables_position _ (λ z. beside_position others more z (later z)))
+
+  -- The same in a call that takes books of group 0 alone.
+  pub one_group_position :
+      (others : List Slice) (more : List Test) → (Sizes t → position_of (first_fault more) ≤ max_position) →
+      position_of (first_fault (lent_one_group_tests t others ++ more)) ≤ max_position
+  unfolding other_group_test
+  one_group_position others more later =
+      rw one_group_order (tables_position _ (λ z. position_more _ _ (few_rules_lem z) (λ a. beside_position others more z (later z))))

@@ -19,7 +19,7 @@ use Rattle.wellfounded.proofs.Definitions.{some_rule_use, some_rule_make}
 use Rattle.wellfounded.proofs.Scan.{body_member}
 use Rattle.tables.specs.Rows.{rule_count, rule_head, rule_start, rule_size, rule_body, rule_at, rule_group, in_group, rows_of, group_rules}
 use Rattle.tables.specs.Rows.{heads_rule, is_declared, defined_by, definition_of}
-use Rattle.tables.specs.Sound.{Tables, group_of, book_of}
+use Rattle.tables.specs.Sound.{Tables, group_of, book_of, OneGroup}
 use Rattle.tables.specs.internal.Definitions.{HasRowsOf, HasRows}
 use Rattle.tables.specs.internal.Marks.{is_marked, TellsDefined}
 use Rattle.tables.proofs.GroupLaws.{group_row, row_group}
@@ -54,13 +54,13 @@ all_rows every rows =
       head_defined = λ row l. rows.head_defined row l (every row l);
     }
 
--- As rows have no number for their group yet, every row is of group 0.
-every_row : (rules : List ℕ) (row : ℕ) → row < rule_count rules → in_group rules 0 row ≡ true
-unfolding in_group rule_group
-every_row rules row l = refl
-
-pub definition_rows : (atoms : ℕ) (rules literals marks : List ℕ) → HasRows (definition_of atoms rules literals marks 0) rules literals
-definition_rows atoms rules literals marks = all_rows (every_row rules) (group_rows atoms rules literals marks 0)
+-- Where every row is of group 0, its definition has all rows.
+pub definition_rows :
+    (atoms : ℕ) (rules literals marks : List ℕ) → ((row : ℕ) → row < rule_count rules → rule_group rules row ≡ 0) →
+    HasRows (definition_of atoms rules literals marks 0) rules literals
+unfolding in_group
+definition_rows atoms rules literals marks zero =
+    all_rows (λ row l. eq-eqb (rule_group rules row) 0 (zero row l)) (group_rows atoms rules literals marks 0)
 
 -- Who is defined in a group: an atom that heads some rule of it, and in group 0 also one whose mark is 1.
 pub defined_exactly :
@@ -129,9 +129,9 @@ pub book_size : (t : Tables) → (book_of t).size ≡ t.atoms
 unfolding book_of
 book_size t = group_size t 0
 
-pub book_rows_lem : (t : Tables) → HasRows (book_of t) t.rules t.literals
+pub book_rows_lem : (t : Tables) → OneGroup t → HasRows (book_of t) t.rules t.literals
 unfolding book_of group_of
-book_rows_lem t = definition_rows t.atoms t.rules t.literals t.marks
+book_rows_lem t one = definition_rows t.atoms t.rules t.literals t.marks one.zero
 
 -- A scan of the rows that are taken finds for an atom what the definition's rules for it have. `q` is the scan's test of a row, and agrees
 -- with the test `p` of bodies in the rows of the atom.

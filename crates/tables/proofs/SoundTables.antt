@@ -15,15 +15,16 @@ use borrow.Author.Tests.{leb-true, leb-false, le-leb, ltb-true, ltb-false, lt-lt
 use Rattle.wellfounded.specs.Literals.{atom_of}
 use Rattle.wellfounded.proofs.Tests.{not_both, both, first, second, either, or_left, or_right, neither}
 use Rattle.wellfounded.proofs.Lists.{all_use, all_make}
-use Rattle.tables.specs.Limits.{max_atoms, max_rule_rows, max_clause_rows, max_literals, max_load_rows, max_terms, max_minutes}
+use Rattle.tables.specs.Limits.{max_atoms, max_rule_rows, max_clause_rows, max_literals, max_load_rows, max_terms, max_group, max_minutes}
 use Rattle.tables.specs.declared.Fault.TheVariants.{SliceLength, Mark}
 use Rattle.tables.specs.declared.Verdict.TheVariants.{Refused}
 use Rattle.tables.specs.Faults.{Test, Absent, first_fault}
-use Rattle.tables.specs.Rows.{rule_width, clause_width, rule_count, rule_head, rule_start, rule_size, clause_start, clause_size}
+use Rattle.tables.specs.Rows.{rule_width, clause_width, rule_count, rule_head, rule_start, rule_size, rule_group, clause_start, clause_size}
 use Rattle.tables.specs.Loads.{load_width, load_count, load_entry}
-use Rattle.tables.specs.Sound.{Tables, sizes_fit, fits_sizes, bad_rule_row, bad_clause_row, good_load_row, bad_literal, bad_term, table_tests}
+use Rattle.tables.specs.Sound.{Tables, sizes_fit, fits_sizes, bad_rule_row, bad_clause_row, good_load_row, bad_literal, bad_term, above_group, table_tests}
+use Rattle.tables.specs.Sound.{other_group_test, one_group_tests, OneGroup, GroupsFit}
 use Rattle.tables.specs.Values.{not_held}
-use Rattle.tables.specs.Sound.{Slice, sized, is_sized, slice_test, mark_count_test, mark_test, lent_tests, Sizes, LoadRowFits, MarksFit}
+use Rattle.tables.specs.Sound.{Slice, sized, is_sized, slice_test, mark_count_test, mark_test, lent_tests, lent_one_group_tests, Sizes, LoadRowFits, MarksFit}
 use Rattle.tables.specs.internal.Scans.{RulesScannable, ClausesScannable, LoadsScannable}
 use Rattle.tables.proofs.Faults.{absent_nothing, absent_none, absent_more, first_passes, first_fails, once_passes, once_fails}
 use Rattle.tables.proofs.MarkLaws.{not_held_at}
@@ -59,6 +60,10 @@ term_fault atoms load_literals minutes place = (
   λ h. ⊎_elim (λ l. inl ((literal_fault atoms load_literals place).0 l)) (λ m. inr (ltb-true _ _ m)) (either _ _ h),
   ⊎_elim (λ l. or_left _ _ ((literal_fault atoms load_literals place).1 l)) (λ m. or_right (bad_literal atoms load_literals place) _ (lt-ltb _ _ m)),
 )
+
+pub above_fault : (group : ℕ) (rules : List ℕ) (row : ℕ) → (above_group group rules row ≡ true) ↔ (group < rule_group rules row)
+unfolding above_group
+above_fault group rules row = (λ h. ltb-true _ _ h, λ above. lt-ltb _ _ above)
 
 non_negative : (z : ℤ) → non_neg z ≡ true → pos 0 ≤ℤ z
 non_negative (pos n) h = le_z_yes (le→leb 0 n zero-le)
@@ -198,6 +203,22 @@ module _ (t : Tables) (none : (test : Test) → Memᴰ test (table_tests t) → 
         few = sound_sizes.few_terms;
       }
 
+  pub sound_groups : GroupsFit t
+  unfolding table_tests above_group
+  sound_groups =
+      record {
+        small = λ row l.
+            ltb-false _ _ ((none _ (Memᴰ.tail (Memᴰ.tail (Memᴰ.tail (Memᴰ.tail (Memᴰ.tail (Memᴰ.tail (Memᴰ.head refl)))))))).nowhere row l);
+      }
+
+-- 35 does not occur exactly if every rule is of group 0.
+pub other_group_fault : (t : Tables) → Absent (other_group_test t) ↔ OneGroup t
+unfolding other_group_test above_group
+other_group_fault t = (
+  λ none. record { zero = λ row l. omega (arith, ltb-false 0 (rule_group t.rules row) (none.nowhere row l)) },
+  λ one. record { nowhere = λ row l. le-ltb 0 (rule_group t.rules row) (omega (arith, one.zero row l)) },
+)
+
 -- 17 does not occur exactly if every slice has the length that it must have.
 pub slices_fit : (slices : List Slice) → Absent (slice_test slices) → (s : Slice) → Memᴰ s slices → s.entries ≡ s.due
 unfolding slice_test is_sized
@@ -302,4 +323,60 @@ module _ (t : Tables) (others : List Slice) where
       (absent_more (tables _ (Memᴰ.tail (Memᴰ.tail (Memᴰ.tail (Memᴰ.head refl)))))
       (absent_more (tables _ (Memᴰ.tail (Memᴰ.tail (Memᴰ.tail (Memᴰ.tail (Memᴰ.head refl))))))
       (absent_more (tables _ (Memᴰ.tail (Memᴰ.tail (Memᴰ.tail (Memᴰ.tail (Memᴰ.tail (Memᴰ.head refl)))))))
-      (absent_more slices (absent_more ((marks_fault t).1 marks).0 (absent_more ((marks_fault t).1 marks).1 absent_none))))))))
+      (absent_more (tables _ (Memᴰ.tail (Memᴰ.tail (Memᴰ.tail (Memᴰ.tail (Memᴰ.tail (Memᴰ.tail (Memᴰ.head refl))))))))
+      (absent_more slices (absent_more ((marks_fault t).1 marks).0 (absent_more ((marks_fault t).1 marks).1 absent_none)))))))))
+
+  -- In a call that takes books of group 0 alone 35 stands between the faults of the tables and the others.
+  pub one_group_order :
+      (later : List Test) →
+      lent_one_group_tests t others ++ later ≡ table_tests t ++ (other_group_test t ∷ slice_test others ∷ mark_count_test t ∷ mark_test t ∷ later)
+  unfolding lent_one_group_tests one_group_tests table_tests
+  one_group_order later = refl
+
+  pub slices_order : (later : List Test) → lent_one_group_tests t others ++ later ≡ one_group_tests t others ++ (mark_count_test t ∷ mark_test t ∷ later)
+  unfolding lent_one_group_tests one_group_tests table_tests
+  slices_order later = refl
+
+  -- Tables and slices that such a call does not refuse have no fault that any call finds, and every rule is of group 0.
+  module _ (none : (test : Test) → Memᴰ test (one_group_tests t others) → Absent test) where
+    pub one_group_tables : (test : Test) → Memᴰ test (table_tests t) → Absent test
+    unfolding one_group_tests
+    one_group_tables test m = none test (Memᴰ.append_left _ m)
+
+    pub one_group_zero : OneGroup t
+    unfolding one_group_tests
+    one_group_zero = (other_group_fault t).0 (none _ (Memᴰ.append_right (table_tests t) (Memᴰ.head refl)))
+
+    pub one_group_slices : Absent (slice_test others)
+    unfolding one_group_tests
+    one_group_slices = none _ (Memᴰ.append_right (table_tests t) (Memᴰ.tail (Memᴰ.head refl)))
+
+  -- Nothing that it is lent has a fault exactly if nothing has one that any call finds, and every rule is of group 0.
+  pub one_group_lent :
+      ((test : Test) → Memᴰ test (lent_one_group_tests t others) → Absent test) →
+      ((test : Test) → Memᴰ test (lent_tests t others) → Absent test) × OneGroup t
+  unfolding lent_one_group_tests
+  one_group_lent none =
+      let early : (test : Test) → Memᴰ test (one_group_tests t others) → Absent test = (λ test m. none test (Memᴰ.append_left _ m)) in (
+        lent_none (one_group_tables early) (one_group_slices early)
+            ((marks_fault t).0 (
+              none _ (Memᴰ.append_right (one_group_tests t others) (Memᴰ.head refl)),
+              none _ (Memᴰ.append_right (one_group_tests t others) (Memᴰ.tail (Memᴰ.head refl))),
+            )),
+        one_group_zero early,
+      )
+
+  pub lent_one_group :
+      ((test : Test) → Memᴰ test (lent_tests t others) → Absent test) → OneGroup t →
+      (test : Test) → Memᴰ test (lent_one_group_tests t others) → Absent test
+  unfolding lent_one_group_tests one_group_tests
+  lent_one_group none one test m =
+      let marks = (marks_fault t).1 (lent_marks none) in
+      ⊎_elim
+      (λ (early : Memᴰ test (table_tests t ++ (other_group_test t ∷ slice_test others ∷ []))).
+      ⊎_elim (λ (m : Memᴰ test (table_tests t)). lent_tables_lem none test m)
+      (λ (m : Memᴰ test (other_group_test t ∷ slice_test others ∷ [])).
+      absent_more ((other_group_fault t).1 one) (absent_more (lent_slices_lem none) absent_none) test m)
+      (Memᴰ.append_cases (table_tests t) early))
+      (λ (late : Memᴰ test (mark_count_test t ∷ mark_test t ∷ [])). absent_more marks.0 (absent_more marks.1 absent_none) test late)
+      (Memᴰ.append_cases (table_tests t ++ (other_group_test t ∷ slice_test others ∷ [])) m)

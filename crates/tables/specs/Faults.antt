@@ -7,7 +7,7 @@ use Rattle.tables.specs.declared.Fault.{Fault}
 use Rattle.tables.specs.declared.Fault.TheVariants.{Malformed, OutsideLimits, OutOfOrder, NoSpace}
 use Rattle.tables.specs.declared.Fault.TheVariants.{TableSizes, RuleRow, ClauseRow, LoadRow, Literal, LoadTerm, SliceLength}
 use Rattle.tables.specs.declared.Fault.TheVariants.{Value, Level, Unsupported, Unblocked, Undecided, FailingClause, FailingLoad}
-use Rattle.tables.specs.declared.Fault.TheVariants.{Mark, TextSize, IndexSize}
+use Rattle.tables.specs.declared.Fault.TheVariants.{Mark, TextSize, IndexSize, Group, OtherGroup}
 use Rattle.tables.specs.declared.Verdict.{Verdict}
 use Rattle.tables.specs.declared.Verdict.TheVariants.{Accepted, Refused}
 
@@ -34,6 +34,8 @@ fault_number FailingLoad = 27
 fault_number Mark = 31
 fault_number TextSize = 32
 fault_number IndexSize = 33
+fault_number Group = 34
+fault_number OtherGroup = 35
 
 -- A verdict's number (0 is accepted) and its position, which the paper calls its spot (0 if accepted).
 abbrev pub number_of : Verdict → ℕ

@@ -20,6 +20,13 @@ max_load_rows = 64
 abbrev pub max_terms : ℕ
 max_terms = 4096
 
+-- Groups of rules are numbered from 0 to 7.
+abbrev pub max_group : ℕ
+max_group = 7
+
+abbrev pub max_groups : ℕ
+max_groups = 8
+
 -- Minutes run from -1,440 to 1,440, bounds from -1,000,000 to 1,000,000.
 abbrev pub max_minutes : ℕ
 max_minutes = 1440

@@ -4,9 +4,9 @@ use Rattle.wellfounded.specs.Lists.{any_below, sum_below, highest_below, join_be
 use Rattle.wellfounded.specs.Literals.{body_at}
 use Rattle.wellfounded.specs.Definitions.{Rule, Definition}
 
--- A rule row is three numbers: head, start, count.
+-- A rule row is four numbers: head, start, count, group.
 abbrev pub rule_width : ℕ
-rule_width = 3
+rule_width = 4
 
 unfoldable pub rule_count : List ℕ → ℕ
 rule_count rules = length rules / rule_width
@@ -29,9 +29,9 @@ rule_at rules literals row = record { head = rule_head rules row; body = rule_bo
 unfoldable pub rules_of : List ℕ → List ℕ → List Rule
 rules_of rules literals = tabulate (rule_count rules) (rule_at rules literals)
 
--- A rule's group tells which of the book's definitions it belongs to. Rows have no number for it yet, so that every rule is of group 0.
+-- A rule's group tells which of the book's definitions it belongs to.
 unfoldable pub rule_group : List ℕ → ℕ → ℕ
-rule_group rules row = 0
+rule_group rules row = get_or rules (row * rule_width + 3) 0
 
 -- Whether the rule of a row is one of a group's.
 unfoldable pub in_group : List ℕ → ℕ → ℕ → Bool
@@ -41,10 +41,15 @@ in_group rules group row = eqb (rule_group rules row) group
 unfoldable pub group_count : List ℕ → ℕ
 group_count rules = suc (highest_below (rule_count rules) (rule_group rules))
 
--- The rows of a group and their rules, in the order of the table.
+-- The rows of a group, in the order of the table.
 unfoldable pub rows_of : List ℕ → ℕ → List ℕ
 rows_of rules group = join_below (rule_count rules) (λ row. cond (in_group rules group row) (row ∷ []) [])
 
+-- All rows by rising group, and those of a group in the order of the table.
+unfoldable pub rows_by_group : List ℕ → List ℕ
+rows_by_group rules = join_below (group_count rules) (rows_of rules)
+
+-- The rules of a group, in the same order.
 unfoldable pub group_rules : List ℕ → List ℕ → ℕ → List Rule
 group_rules rules literals group = map (rule_at rules literals) (rows_of rules group)
 

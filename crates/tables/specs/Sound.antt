@@ -1,13 +1,14 @@
--- The lent tables, their faults 11 to 16 in order, the fault 17 of the slices lent with them, and the fault 31 of the marks.
+-- The lent tables, their faults 11 to 16 and 34 in order, the fault 35 of a book that is not of group 0 alone, the fault 17 of the slices lent with
+-- the tables, and the fault 31 of the marks.
 use Rattle.std.specs.Prelude.{ℕ, ◌+◌, ◌*◌, ◌%◌, ◌≤◌, ◌<◌, ◌≡◌, Bool, not, ◌&&◌, ◌||◌, leb, ltb, eqb, ℤ, pos, nat_abs, ◌≤ℤ◌, length, get_or, take, drop}
 use mathlib.Core.List.{List, [], ◌∷◌, ◌++◌, Memᴰ}
 use Rattle.std.specs.Int.Signed.{non_neg}
 use Rattle.wellfounded.specs.Lists.{all}
 use Rattle.wellfounded.specs.Definitions.{Definition}
-use Rattle.tables.specs.declared.Fault.TheVariants.{TableSizes, RuleRow, ClauseRow, LoadRow, Literal, LoadTerm, SliceLength, Mark}
-use Rattle.tables.specs.Limits.{max_atoms, max_rule_rows, max_clause_rows, max_literals, max_load_rows, max_terms, max_minutes, max_bound}
+use Rattle.tables.specs.declared.Fault.TheVariants.{TableSizes, RuleRow, ClauseRow, LoadRow, Literal, LoadTerm, Group, OtherGroup, SliceLength, Mark}
+use Rattle.tables.specs.Limits.{max_atoms, max_rule_rows, max_clause_rows, max_literals, max_load_rows, max_terms, max_group, max_minutes, max_bound}
 use Rattle.tables.specs.Faults.{Test, Absent}
-use Rattle.tables.specs.Rows.{rule_width, rule_count, rule_head, rule_start, rule_size, group_count, definition_of}
+use Rattle.tables.specs.Rows.{rule_width, rule_count, rule_head, rule_start, rule_size, rule_group, group_count, definition_of}
 use Rattle.tables.specs.Rows.{clause_width, clause_count, clause_start, clause_size}
 use Rattle.tables.specs.Loads.{load_width, load_count, load_entry, load_low, load_high, load_start, load_size}
 use Rattle.tables.specs.Values.{not_held}
@@ -79,7 +80,11 @@ bad_literal atoms literals place = leb (2 * atoms) (get_or literals place 0)
 unfoldable pub bad_term : ℕ → List ℕ → List ℤ → ℕ → Bool
 bad_term atoms load_literals minutes place = bad_literal atoms load_literals place || ltb max_minutes (nat_abs (get_or minutes place (pos 0)))
 
--- The faults 11 to 16 of the tables, in the order in which they are looked for.
+-- A rule row of a group above some number: 34 above the highest group, and 35 above 0, in a call that takes books of group 0 alone.
+unfoldable pub above_group : ℕ → List ℕ → ℕ → Bool
+above_group group rules row = ltb group (rule_group rules row)
+
+-- The faults 11 to 16 and 34 of the tables, in the order in which they are looked for.
 unfoldable pub table_tests : Tables → List Test
 table_tests t =
     record { fault = TableSizes; positions = 1; bad = λ k. not (fits_sizes t) }
@@ -88,7 +93,16 @@ table_tests t =
     ∷ record { fault = LoadRow; positions = load_count t.loads; bad = λ row. not (good_load_row t.loads (length t.load_literals) row) }
     ∷ record { fault = Literal; positions = length t.literals; bad = bad_literal t.atoms t.literals }
     ∷ record { fault = LoadTerm; positions = length t.load_literals; bad = bad_term t.atoms t.load_literals t.minutes }
+    ∷ record { fault = Group; positions = rule_count t.rules; bad = above_group max_group t.rules }
     ∷ []
+
+-- 35: a rule of a group above 0, in a call that takes books of group 0 alone.
+unfoldable pub other_group_test : Tables → Test
+other_group_test t = record { fault = OtherGroup; positions = rule_count t.rules; bad = above_group 0 t.rules }
+
+-- A book of group 0: every rule is of that group.
+pub record OneGroup (t : Tables) : Type 0 where
+  pub zero : (row : ℕ) → row < rule_count t.rules → rule_group t.rules row ≡ 0
 
 -- Another lent slice: how many entries it has, and how many it must have.
 pub record Slice : Type 0 where
@@ -126,7 +140,14 @@ mark_test t = record { fault = Mark; positions = t.atoms; bad = not_held t.marks
 unfoldable pub lent_tests : Tables → List Slice → List Test
 lent_tests t others = table_tests t ++ (slice_test others ∷ mark_count_test t ∷ mark_test t ∷ [])
 
--- Tables are sound if neither they nor the slices lent with them have a fault of 11 to 17 or of 31.
+-- The same in a call that takes books of group 0 alone: 35 comes right after 34, before the slices.
+unfoldable pub one_group_tests : Tables → List Slice → List Test
+one_group_tests t others = table_tests t ++ (other_group_test t ∷ slice_test others ∷ [])
+
+unfoldable pub lent_one_group_tests : Tables → List Slice → List Test
+lent_one_group_tests t others = one_group_tests t others ++ (mark_count_test t ∷ mark_test t ∷ [])
+
+-- Tables are sound if neither they nor the slices lent with them have a fault of 11 to 17, of 31 or of 34.
 pub record Sound (t : Tables) (others : List Slice) : Type 0 where
   pub none : (test : Test) → Memᴰ test (lent_tests t others) → Absent test
 
@@ -142,6 +163,10 @@ pub record Sizes (t : Tables) : Type 0 where
   pub whole_loads : length t.loads % load_width ≡ 0
   pub few_terms : length t.load_literals ≤ max_terms
   pub paired : length t.minutes ≡ length t.load_literals
+
+-- What the groups of sound tables' rows are.
+pub record GroupsFit (t : Tables) : Type 0 where
+  pub small : (row : ℕ) → row < rule_count t.rules → rule_group t.rules row ≤ max_group
 
 -- What a load row of sound tables is.
 pub record LoadRowFits (loads : List ℤ) (terms row : ℕ) : Type 0 where

@@ -44,6 +44,8 @@ pub enum Fault {
     Mark,
     TextSize,
     IndexSize,
+    Group,
+    OtherGroup,
 }
 
 // What every call answers: accepted, or refused for a fault at a position.
@@ -79,6 +81,8 @@ pub fn fault_number(fault: Fault) -> usize
         Fault::Mark => 31,
         Fault::TextSize => 32,
         Fault::IndexSize => 33,
+        Fault::Group => 34,
+        Fault::OtherGroup => 35,
     }
 }
 

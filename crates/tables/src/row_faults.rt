@@ -4,12 +4,13 @@ ghost use Rattle.std.specs.Prelude.{◌≡◌, not, ℕ, ◌≤◌, ◌<◌, len
 ghost use Rattle.tables.specs.Faults.{lowest};
 ghost use Rattle.tables.specs.Rows.{rule_count, clause_count};
 ghost use Rattle.tables.specs.Loads.{load_count};
-ghost use Rattle.tables.specs.Sound.{bad_rule_row, bad_clause_row, good_load_row, bad_literal, bad_term};
+ghost use Rattle.tables.specs.Sound.{bad_rule_row, bad_clause_row, good_load_row, bad_literal, bad_term, above_group};
 
 use super::Found;
 use super::load_rows::{load_count, load_row_is_good};
 use super::rows::{
-    clause_count, clause_size, clause_start, rule_count, rule_head, rule_size, rule_start,
+    clause_count, clause_size, clause_start, rule_count, rule_group, rule_head, rule_size,
+    rule_start,
 };
 use super::sizes::MAX_MINUTES;
 use wellfounded::atom_of;
@@ -32,6 +33,21 @@ pub fn bad_rule_row(atoms: usize, rules: &[u16], literals: usize) -> Found
     let mut row = 0;
     while row < rows {
         if rule_row_is_bad(atoms, rules, literals, row) {
+            return Found::At(row);
+        }
+        row += 1;
+    }
+    Found::Nothing
+}
+
+// The lowest rule row of a group above some number.
+pub fn row_above(rules: &[u16], group: usize) -> Found
+    ensures { result ≡ lowest (rule_count rules.now) (above_group group rules.now) }
+{
+    let rows = rule_count(rules);
+    let mut row = 0;
+    while row < rows {
+        if group < rule_group(rules, row) {
             return Found::At(row);
         }
         row += 1;

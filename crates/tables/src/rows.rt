@@ -4,7 +4,7 @@ ghost use Rattle.tables.specs.Rows.{rule_count, rule_head, rule_start, rule_size
 ghost use Rattle.tables.specs.internal.Fields.{Field};
 
 // Entries in a row.
-pub const RULE_WIDTH: usize = 3;
+pub const RULE_WIDTH: usize = 4;
 
 pub const CLAUSE_WIDTH: usize = 2;
 
@@ -47,12 +47,12 @@ pub fn rule_size(rules: &[u16], row: usize) -> usize
     entry(rules, row * RULE_WIDTH + 2)
 }
 
-// The group of a rule: 0, as rows have no number for it yet.
+// The group of a rule: which of the book's definitions it belongs to.
 pub fn rule_group(rules: &[u16], row: usize) -> usize
     requires { row < rule_count rules.now }
     ensures { Field 65536 (rule_group rules.now row) result }
 {
-    0
+    entry(rules, row * RULE_WIDTH + 3)
 }
 
 // How many clauses a table has.

@@ -1,10 +1,14 @@
-// Sizes of the lent tables, and the faults 11 to 16 of tables in their order.
+// Sizes of the lent tables, and the faults 11 to 16, 34, 35 and 17 in their order.
 ghost use Rattle.std.specs.Prelude.{◌≡◌, List, ℕ};
 ghost use Rattle.tables.specs.Faults.{first_fault};
-ghost use Rattle.tables.specs.Sound.{lent, sizes_fit, table_tests};
+ghost use Rattle.tables.specs.Sound.{Slice, lent, is_sized, sizes_fit, table_tests, one_group_tests};
+ghost use Rattle.wellfounded.specs.Lists.{all};
 
 use super::load_rows::LOAD_WIDTH;
-use super::row_faults::{bad_clause_row, bad_literal, bad_load_row, bad_rule_row, bad_term};
+use super::refusals::first_refusal;
+use super::row_faults::{
+    bad_clause_row, bad_literal, bad_load_row, bad_rule_row, bad_term, row_above,
+};
 use super::rows::{CLAUSE_WIDTH, RULE_WIDTH};
 use super::{Fault, Found, Verdict};
 
@@ -25,6 +29,11 @@ const MAX_LOAD_ROWS: usize = 64;
 pub const MAX_LOAD_ENTRIES: usize = MAX_LOAD_ROWS * LOAD_WIDTH;
 
 pub const MAX_TERMS: usize = 4096;
+
+// The highest number of a group, and how many groups there can be.
+pub const MAX_GROUP: usize = 7;
+
+pub const MAX_GROUPS: usize = MAX_GROUP + 1;
 
 pub const MAX_MINUTES: i16 = 1440;
 
@@ -59,7 +68,7 @@ fn sizes_fit(
         & (minutes == load_literals)
 }
 
-// The first fault of the tables, whatever the marks: their sizes, then rows, then single entries.
+// The first fault of the tables, whatever the marks: their sizes, then rows, then single entries, then groups.
 pub fn table_fault(
     atoms: usize,
     rules: &[u16],
@@ -98,5 +107,40 @@ pub fn table_fault(
     if let Found::At(place) = bad_term(atoms, load_literals, minutes) {
         return Verdict::Refused(Fault::LoadTerm, place);
     }
+    if let Found::At(row) = row_above(rules, MAX_GROUP) {
+        return Verdict::Refused(Fault::Group, row);
+    }
     Verdict::Accepted
+}
+
+// The first fault of the tables, and of the slices lent with them, in a call that takes books of group 0 alone, whatever the marks; `fit` tells
+// whether the slices have their lengths.
+pub fn one_group_fault(
+    atoms: usize,
+    rules: &[u16],
+    literals: &[u16],
+    clauses: &[u16],
+    loads: &[i32],
+    load_literals: &[u16],
+    minutes: &[i16],
+    fit: bool,
+) -> Verdict
+    ensures { (marks : List ℕ) (others : List Slice) → fit ≡ all is_sized others →
+        result ≡ first_fault (one_group_tests (lent atoms rules.now literals.now clauses.now
+        loads.now load_literals.now minutes.now marks) others) }
+{
+    let verdict = table_fault(
+        atoms,
+        rules,
+        literals,
+        clauses,
+        loads,
+        load_literals,
+        minutes,
+    );
+    if let Verdict::Refused(_, _) = verdict {
+        return verdict;
+    }
+    let other = row_above(rules, 0);
+    first_refusal(Fault::OtherGroup, other, fit, Fault::SliceLength)
 }

@@ -76,7 +76,7 @@ pub fn show_tables(
     end_line();
 }
 
-// Reads a text that needs 3 rule entries, 3 literals, 2 clause entries, 4 load entries, 1 term, 2 marks, 2 values and 2 levels.
+// Reads a text that needs 4 rule entries, 3 literals, 2 clause entries, 4 load entries, 1 term, 2 marks, 2 values and 2 levels.
 // The tables are lent with just so many, one less where `short` says so.
 fn read_lent(
     text: &[u8],
@@ -91,10 +91,10 @@ fn read_lent(
     values: &mut [u8],
     levels: &mut [u16],
 ) -> Book
-    requires { (3 ≤ length rules.old) × (3 ≤ length literals.old) × (2 ≤ length clauses.old) × (4 ≤ length loads.old)
+    requires { (4 ≤ length rules.old) × (3 ≤ length literals.old) × (2 ≤ length clauses.old) × (4 ≤ length loads.old)
         × (1 ≤ length load_literals.old) × (1 ≤ length minutes.old) × (2 ≤ length marks.old) × (2 ≤ length values.old) × (2 ≤ length levels.old) }
 {
-    let rules_end = lent(3, 0, short);
+    let rules_end = lent(4, 0, short);
     let literals_end = lent(3, 1, short);
     let clauses_end = lent(2, 2, short);
     let loads_end = lent(4, 3, short);
@@ -119,7 +119,7 @@ fn read_lent(
 
 // The tables are shown with one entry more than the text needs.
 fn show_lent(name: &[u8], text: &[u8], short: usize) {
-    let mut rules = [9u16; 4];
+    let mut rules = [9u16; 5];
     let mut literals = [9u16; 4];
     let mut clauses = [9u16; 3];
     let mut loads = [9i32; 5];

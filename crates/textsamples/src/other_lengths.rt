@@ -3,9 +3,9 @@ use super::lent_tables::show_tables;
 use super::texts::show_book;
 use booktext::read;
 
-// Five entries of the rule table hold one row.
-fn show_five(name: &[u8], text: &[u8]) {
-    let mut rules = [9u16; 5];
+// Six entries of the rule table hold one row.
+fn show_six(name: &[u8], text: &[u8]) {
+    let mut rules = [9u16; 6];
     let mut none = [9u16; 0];
     let mut clauses = [9u16; 2];
     let mut no_loads = [9i32; 0];
@@ -42,7 +42,7 @@ fn show_five(name: &[u8], text: &[u8]) {
 
 // Each table is longer than its limit; what lies beyond the limits is shown.
 fn show_long(name: &[u8], text: &[u8]) {
-    let mut rules = [9u16; 6147];
+    let mut rules = [9u16; 8196];
     let mut literals = [9u16; 16385];
     let mut clauses = [9u16; 4098];
     let mut loads = [9i32; 260];
@@ -50,7 +50,7 @@ fn show_long(name: &[u8], text: &[u8]) {
     let mut minutes = [9i16; 4097];
     let mut marks = [9u8; 1025];
     let mut values = [9u8; 1025];
-    let mut levels = [9u16; 1025];
+    let mut levels = [9u16; 8193];
     let book = read(
         text,
         &mut rules,
@@ -65,7 +65,7 @@ fn show_long(name: &[u8], text: &[u8]) {
     );
     show_book(name, book);
     show_tables(
-        &rules[6144..6147],
+        &rules[8192..8196],
         &literals[16384..16385],
         &clauses[4096..4098],
         &loads[256..260],
@@ -73,24 +73,21 @@ fn show_long(name: &[u8], text: &[u8]) {
         &minutes[4096..4097],
         &marks[1024..1025],
         &values[1024..1025],
-        &levels[1024..1025],
+        &levels[8192..8193],
     );
 }
 
 pub fn run_other_lengths() {
-    show_five(
-        b"one-rule-in-five-entries",
-        b"(atoms 1)\n(rule 0)\n(open)\n",
-    );
-    show_five(
-        b"two-rules-in-five-entries",
+    show_six(b"one-rule-in-six-entries", b"(atoms 1)\n(rule 0)\n(open)\n");
+    show_six(
+        b"two-rules-in-six-entries",
         b"(atoms 1)\n(rule 0)\n(rule 0)\n(open)\n",
     );
-    show_five(
+    show_six(
         b"limits-beat-space",
         b"(atoms 1)\n(rule 0)\n(rule 1024)\n(open)\n",
     );
-    show_five(
+    show_six(
         b"order-beats-space",
         b"(atoms 1)\n(rule 0)\n(clause)\n(rule 0)\n(open)\n",
     );

@@ -1,5 +1,5 @@
 // Texts through the reader: each line has what is special about a text, the verdict's number and position, N, the entries
-// used in each table, and the number of the state form.
+// used in each table, the number of the state form, and the number of groups.
 use booktext::{Book, read, state_number};
 use shown::{end_line, show_number, show_verdict};
 
@@ -15,11 +15,12 @@ pub fn show_book(name: &[u8], book: Book) {
     show_number(b" loads ", book.loads);
     show_number(b" terms ", book.terms);
     show_number(b" state ", state_number(state));
+    show_number(b" groups ", book.groups);
 }
 
 // Reads a text into tables of full size.
 pub fn show_text(name: &[u8], text: &[u8]) {
-    let mut rules = [0u16; 6144];
+    let mut rules = [0u16; 8192];
     let mut literals = [0u16; 16384];
     let mut clauses = [0u16; 4096];
     let mut loads = [0i32; 256];
@@ -27,7 +28,7 @@ pub fn show_text(name: &[u8], text: &[u8]) {
     let mut minutes = [0i16; 4096];
     let mut marks = [0u8; 1024];
     let mut values = [0u8; 1024];
-    let mut levels = [0u16; 1024];
+    let mut levels = [0u16; 8192];
     let book = read(
         text,
         &mut rules,

@@ -1,4 +1,4 @@
--- Examples by computation: Book A of docs/SPECIFICATION.md, claimed as P1 makes it, is written as exactly these bytes.
+-- Examples by computation: Book A of docs/SPECIFICATION.md, claimed as P1 makes it, and a book of two groups are written as exactly these bytes.
 -- Assumes nothing.
 use Prim.Native.Nat.{ℕ}
 use mathlib.Core.Path.{◌≡◌, refl}
@@ -14,7 +14,7 @@ use Rattle.writing.proofs.Computes.{computes}
 -- The tables with these marks, and the claim.
 unfoldable pub book_a : List ℕ → Tables
 book_a marks =
-    lent 4 (1 ∷ 0 ∷ 1 ∷ 1 ∷ 1 ∷ 1 ∷ 2 ∷ 2 ∷ 1 ∷ 3 ∷ 3 ∷ 1 ∷ []) (0 ∷ 4 ∷ 2 ∷ 3 ∷ 2 ∷ 6 ∷ []) (4 ∷ 2 ∷ []) (pos 0 ∷ pos 10 ∷ pos 0 ∷ pos 1 ∷ []) (6 ∷ [])
+    lent 4 (1 ∷ 0 ∷ 1 ∷ 0 ∷ 1 ∷ 1 ∷ 1 ∷ 0 ∷ 2 ∷ 2 ∷ 1 ∷ 0 ∷ 3 ∷ 3 ∷ 1 ∷ 0 ∷ []) (0 ∷ 4 ∷ 2 ∷ 3 ∷ 2 ∷ 6 ∷ []) (4 ∷ 2 ∷ []) (pos 0 ∷ pos 10 ∷ pos 0 ∷ pos 1 ∷ []) (6 ∷ [])
     (pos 60 ∷ []) marks
 
 unfoldable pub no_marks : List ℕ
@@ -69,3 +69,19 @@ exact_buffer = refl
 pub buffer_one_short : write_of (book_a no_marks) values levels 123 ≡ Refused TextSize 0
 unfolding computes book_a no_marks values levels
 buffer_one_short = refl
+
+-- Two rules, the one of group 1 first in the table, with levels of both groups: the rule of group 0 is written first.
+pub two_groups :
+    text_of (lent 2 (1 ∷ 0 ∷ 1 ∷ 1 ∷ 0 ∷ 1 ∷ 0 ∷ 0 ∷ []) (0 ∷ []) [] [] [] [] (0 ∷ 0 ∷ [])) (1 ∷ 1 ∷ []) (1 ∷ 0 ∷ 0 ∷ 2 ∷ [])
+    ≡
+    -- (atoms 2)
+    40 ∷ 97 ∷ 116 ∷ 111 ∷ 109 ∷ 115 ∷ 32 ∷ 50 ∷ 41 ∷ 10 ∷
+    -- (rule 0)
+    40 ∷ 114 ∷ 117 ∷ 108 ∷ 101 ∷ 32 ∷ 48 ∷ 41 ∷ 10 ∷
+    -- (also 1 1 0)
+    40 ∷ 97 ∷ 108 ∷ 115 ∷ 111 ∷ 32 ∷ 49 ∷ 32 ∷ 49 ∷ 32 ∷ 48 ∷ 41 ∷ 10 ∷
+    -- (claim (1 1 0) (1 0 2))
+    40 ∷ 99 ∷ 108 ∷ 97 ∷ 105 ∷ 109 ∷ 32 ∷ 40 ∷ 49 ∷ 32 ∷ 49 ∷ 32 ∷ 48 ∷ 41 ∷ 32 ∷ 40 ∷ 49 ∷ 32 ∷ 48 ∷ 32 ∷ 50 ∷ 41 ∷ 41 ∷ 10 ∷
+    []
+unfolding computes
+two_groups = refl

@@ -1,10 +1,11 @@
 -- How many bytes parts and lines have, as the code adds them.
 -- Assumes nothing.
 use Prim.Native.Nat.{ℕ, zero, suc, ◌+◌, ◌*◌, ◌/◌, ◌%◌, ◌≤◌, ◌<◌}
-use mathlib.Core.Path.{◌≡◌, refl, ap, ◌∙◌}
+use mathlib.Core.Path.{◌≡◌, refl, sym, ap, ap₂, ◌∙◌}
 use mathlib.Core.Logic.{◌⊎◌, inl, inr}
 use mathlib.Core.Bool.{Bool, true, false, cond}
 use mathlib.Core.List.{List, [], ◌∷◌}
+use native.Mathlib.Nat.{add-zero, add-suc, zero-mul, suc-mul}
 use native.Mathlib.Omega.{arith}
 use lib.Dec.{eqb}
 use lib.IntN.{ℤ}
@@ -13,19 +14,19 @@ use mir.Syntax.{w16, w32}
 use mir.Val.{SFits, to_z, of_z, bool_byte}
 use mir.Facts.{to_z-of_z}
 use borrow.Author.Tests.{eqb-true, eqb-false}
-use Rattle.wellfounded.specs.Lists.{count, join_below}
-use Rattle.wellfounded.proofs.Sums.{join_more}
+use Rattle.wellfounded.specs.Lists.{count, sum_below, join_below}
+use Rattle.wellfounded.proofs.Sums.{sum_same, sum_add, sum_swap, join_more, length_join}
 use Rattle.wellfounded.specs.Literals.{atom_of, is_negated}
 use Rattle.wellfounded.proofs.Tests.{decided}
 use Rattle.tables.specs.Limits.{max_atoms}
 use Rattle.tables.specs.Rows.{is_declared}
 use Rattle.tables.specs.internal.Marks.{is_marked}
-use Rattle.format.specs.Forms.{space, decimal, signed, literal_bytes, render_all}
-use Rattle.writing.specs.BookForms.{literal_text, marked_atoms, defined_forms}
-use Rattle.writing.specs.internal.Parts.{mark_part}
+use Rattle.format.specs.Forms.{claim_form, space, decimal, signed, literal_bytes, render_all}
+use Rattle.writing.specs.BookForms.{literal_text, marked_atoms, defined_forms, pairs_of}
+use Rattle.writing.specs.internal.Parts.{level_at, level_part, value_part, pair_part, mark_part, line_of}
 use Rattle.writing.specs.internal.Counting.{Counts, max_entries, max_line, max_lines}
-use Rattle.writing.proofs.PartLaws.{defined_none, minutes_length}
-use Rattle.writing.proofs.TextLaws.{parts_length, defined_parts}
+use Rattle.writing.proofs.PartLaws.{pair_length, defined_none, minutes_length}
+use Rattle.writing.proofs.TextLaws.{parts_length, claim_parts, defined_parts}
 
 -- ── Parts added one after the other ──
 
@@ -64,6 +65,14 @@ lines_counted f count rows row total e read few l s =
     let all = adding_end f max_line rows row total l s in
     record { is = rw (e, ← read) all.is; few = omega (arith, all.few) }
 
+-- The same of lines that are put in another order.
+pub reordered_counted :
+    {text : List ℕ} (f : ℕ → List ℕ) (count rows row total : ℕ) → length text ≡ length (join_below count f) → rows ≡ count → count ≤ max_entries →
+    rows ≤ row → Adding f max_line rows row total → Counts text max_lines total
+reordered_counted f count rows row total e read few l s =
+    let all = lines_counted f count rows row total refl read few l s in
+    record { is = all.is ∙ sym e; few = all.few }
+
 -- ── Numbers that the code reads back from their bits ──
 
 -- Minutes, which it widens besides.
@@ -93,6 +102,58 @@ pub literal_counts_lem :
     (literal digits : ℕ) → (digits ≡ length (decimal (literal / 2))) × (digits ≤ 7) →
     Counts (space ∷ literal_bytes (literal_text literal)) 14 (1 + digits + 6 * (literal % 2))
 literal_counts_lem literal digits d = record { is = omega (arith, literal_length literal, d.0); few = omega (arith, d.1) }
+
+-- ── The claim ──
+
+sum_split : (m n : ℕ) (f : ℕ → ℕ) → sum_below (m + n) f ≡ sum_below m f + sum_below n (λ k. f (m + k))
+unfolding sum_below
+sum_split m zero f = rw add-zero (omega arith)
+sum_split m (suc n) f = rw add-suc (let before = sum_split m n f in omega arith)
+
+-- Entries that stand block by block, added within each block.
+sum_blocks : (blocks size : ℕ) (f : ℕ → ℕ) → sum_below blocks (λ block. sum_below size (λ k. f (block * size + k))) ≡ sum_below (blocks * size) f
+unfolding sum_below
+sum_blocks zero size f = rw zero-mul
+sum_blocks (suc blocks) size f =
+    ap (λ (n : ℕ). n + sum_below size (λ k. f (blocks * size + k))) (sum_blocks blocks size f)
+    ∙ (sym (sum_split (blocks * size) size f) ∙ rw (suc-mul blocks size))
+
+module _ (groups : ℕ) (values levels : List ℕ) where
+  -- The levels of an atom, as they stand in the slice.
+  levels_long_lem :
+      (n atom : ℕ) → length (join_below groups (level_part n levels atom)) ≡ sum_below groups (λ group. length (level_at levels (group * n + atom)))
+  unfolding level_part level_at
+  levels_long_lem n atom = length_join groups (level_part n levels atom)
+
+  value_long : (atom : ℕ) → length (value_part values atom) ≡ 3 + length (decimal (get_or values atom 0))
+  unfolding value_part
+  value_long atom = rw length-append (omega arith)
+
+  -- The pairs have as many bytes as the values, with what stands around them, and the levels in whatever order.
+  pairs_long :
+      (n : ℕ) →
+      length (join_below n (pair_part n groups values levels)) ≡ length (join_below n (value_part values)) + length (join_below (groups * n) (level_at levels))
+  pairs_long n =
+      let level : ℕ → ℕ = (λ place. length (level_at levels place)) in
+      let each : ℕ → ℕ = (λ atom. sum_below groups (λ group. level (group * n + atom))) in
+      length_join n (pair_part n groups values levels)
+      ∙ (sum_same n _ (λ atom. length (value_part values atom) + each atom) (λ atom l.
+      omega (arith, pair_length n groups values levels atom, levels_long_lem n atom, value_long atom))
+      ∙ (sum_add n (λ atom. length (value_part values atom)) each
+      ∙ ap₂ (λ (a b : ℕ). a + b) (sym (length_join n (value_part values)))
+      (sum_swap n groups (λ atom group. level (group * n + atom)) ∙ (sum_blocks groups n level ∙ sym (length_join (groups * n) (level_at levels))))))
+
+  -- The claim's line, counted so.
+  pub claim_counts :
+      (valued levelled : ℕ) → length levels ≡ groups * length values → Counts (join_below (length values) (value_part values)) (10 * max_atoms) valued →
+      Counts (join_below (length levels) (level_at levels)) (8 * max_entries) levelled →
+      Counts (line_of (claim_form (pairs_of (length values) groups values levels))) max_line (valued + levelled + 8)
+  claim_counts valued levelled long v k =
+      let n = length values in
+      record {
+        is = omega (arith, parts_length (claim_parts n groups values levels), pairs_long n, v.is, rw long at k.is);
+        few = omega (arith, v.few, k.few);
+      }
 
 -- ── The marked atoms ──
 

@@ -18,6 +18,7 @@ use Rattle.wellfounded.specs.Literals.{atom_of, is_negated}
 use Rattle.tables.specs.Rows.{is_declared}
 use Rattle.tables.specs.internal.Marks.{is_marked}
 use Rattle.tables.specs.Loads.{term_at}
+use Rattle.tables.proofs.RowOrder.{total}
 use Rattle.format.specs.Forms.{Form, claim_form, space, opening, closing, line_end, not_word, claim_word, defined_word}
 use Rattle.format.specs.Forms.{decimal, signed, literal_bytes, term_bytes, pair_bytes, parts_bytes, render, render_all}
 use Rattle.printing.specs.internal.Putting.{Puts, max_printed}
@@ -73,6 +74,10 @@ module _ {A B : Type 0} where
   map_tabulate g zero f = refl
   map_tabulate g (suc n) f = ap (λ (l : List B). g (f zero) ∷ l) (map_tabulate g n (λ k. f (suc k)))
 
+  pub map_both : (g : A → B) (xs ys : List A) → map g (xs ++ ys) ≡ map g xs ++ map g ys
+  map_both g [] ys = refl
+  map_both g (x ∷ xs) ys = ap (λ (zs : List B). g x ∷ zs) (map_both g xs ys)
+
 -- ── Lines ──
 
 -- The text of forms is the line of the first and the text of the others,
@@ -91,6 +96,29 @@ unfolding render_all
 text_append [] gs = refl
 text_append (f ∷ fs) gs =
     ap (λ (l : List ℕ). render f ++ (line_end ∷ l)) (text_append fs gs) ∙ sym (append_assoc (render f) (line_end ∷ render_all fs) (render_all gs))
+
+-- So that of the forms of joined lists is, list by list,
+pub text_joined :
+    (form : ℕ → Form) (n : ℕ) (f : ℕ → List ℕ) → render_all (map form (join_below n f)) ≡ join_below n (λ k. render_all (map form (f k)))
+unfolding join_below
+text_joined form zero f = unfold render_all in refl
+text_joined form (suc n) f =
+    ap render_all (map_both form (join_below n f) (f n))
+    ∙ (text_append (map form (join_below n f)) (map form (f n)) ∙ ap (λ (l : List ℕ). l ++ render_all (map form (f n))) (text_joined form n f))
+
+-- that of one that is listed or not its line or none,
+pub text_listed : (form : ℕ → Form) (listed : Bool) (k : ℕ) → render_all (map form (cond listed (k ∷ []) [])) ≡ cond listed (line_of (form k)) []
+unfolding render_all line_of
+text_listed form true k = refl
+text_listed form false k = refl
+
+-- and how long it is, by the lengths of lines.
+pub text_length : (form : ℕ → Form) (ks : List ℕ) → length (render_all (map form ks)) ≡ total (λ (k : ℕ). length (line_of (form k))) ks
+unfolding total
+text_length form [] = unfold render_all in refl
+text_length form (k ∷ ks) =
+    ap length (text_first (form k) (map form ks))
+    ∙ (length-append (line_of (form k)) (render_all (map form ks)) ∙ ap (λ (n : ℕ). length (line_of (form k)) + n) (text_length form ks))
 
 -- The claim's line, by its parts.
 pub claim_line_lem :

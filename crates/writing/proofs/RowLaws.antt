@@ -1,7 +1,8 @@
 -- The lines of rows: the literals or the terms of a row by the parts that are put, the line of a row, and the lines of all rows.
 -- Assumes nothing.
 use Prim.Native.Nat.{ℕ, zero, suc, ◌+◌, ◌-◌, ◌≤◌, ◌<◌}
-use mathlib.Core.Path.{◌≡◌, refl, ap, ◌∙◌, fun_ext}
+use mathlib.Core.Path.{◌≡◌, refl, sym, ap, ◌∙◌, fun_ext}
+use mathlib.Core.Bool.{cond}
 use mathlib.Core.List.{List, [], ◌∷◌, ◌++◌, map, append_assoc}
 use native.Mathlib.Omega.{arith}
 use lib.IntN.{ℤ, nat_abs}
@@ -10,20 +11,24 @@ use lib.Seq.{get_or-drop}
 use mir.Syntax.{w32}
 use mir.Val.{SFits, to_z, of_z}
 use mir.Facts.{to_z-of_z}
+use borrow.Author.Tests.{eq-eqb, ne_eqb}
 use Rattle.wellfounded.specs.Lists.{tabulate, join_below}
 use Rattle.wellfounded.specs.Literals.{body_at}
 use Rattle.wellfounded.proofs.Scan.{part_is}
-use Rattle.tables.specs.Rows.{rule_count, rule_head, rule_start, rule_size, rule_body, rule_at, rules_of}
+use Rattle.wellfounded.proofs.Sums.{length_join}
+use Rattle.tables.specs.Rows.{rule_count, rule_head, rule_start, rule_size, rule_body, rule_at, rule_group, in_group, group_count, rows_of, rows_by_group}
 use Rattle.tables.specs.Rows.{clause_count, clause_start, clause_size, clause_at, clauses_of}
 use Rattle.tables.specs.Loads.{load_count, load_low, load_high, load_start, load_size, term_at, terms_at, load_at, loads_of}
-use Rattle.format.specs.Forms.{space, line_end, rule_word, clause_word, load_word}
-use Rattle.format.specs.Forms.{decimal, signed, literal_bytes, term_bytes, render, render_all}
+use Rattle.tables.proofs.RowOrder.{rows_total}
+use Rattle.format.specs.Forms.{space, line_end, rule_word, also_word, clause_word, load_word}
+use Rattle.format.specs.Forms.{decimal, signed, literal_bytes, term_bytes, parts_bytes, render, render_all}
 use Rattle.printing.specs.internal.Putting.{Puts, max_printed}
 use Rattle.printing.proofs.PutLaws.{puts_then, puts_behind}
 use Rattle.printing.proofs.Joining.{Joined, joined_fits, joined_end}
-use Rattle.writing.specs.BookForms.{literal_text, term_text, rule_form_of, clause_form_of, load_form_of}
-use Rattle.writing.specs.internal.Parts.{literal_part, term_part, line_of, body_bytes, terms_bytes, rule_line, clause_line, load_line}
-use Rattle.writing.proofs.PartLaws.{line_close, parts_line, lines_joined, map_tabulate}
+use Rattle.writing.specs.BookForms.{literal_text, term_text, rule_form_of, row_form, clause_form_of, load_form_of}
+use Rattle.writing.specs.internal.Parts.{literal_part, term_part, line_of, rule_opening, body_bytes, terms_bytes}
+use Rattle.writing.specs.internal.Parts.{rules_text, rule_line, group_line, group_text, clause_line, load_line}
+use Rattle.writing.proofs.PartLaws.{line_close, parts_line, lines_joined, map_tabulate, text_joined, text_listed, text_length}
 
 -- ── The literals of a row ──
 
@@ -82,26 +87,61 @@ module _ (load_literals : List ℕ) (minutes : List ℤ) (start size : ℕ) wher
 pub lies : {a b start size most : ℕ} → a ≡ start → b ≡ size → start + size ≤ most → a + b ≤ most
 lies e f h = omega arith
 
+-- What stands before the head of a rule, by its group.
+pub opening_plain : {group : ℕ} → group ≡ 0 → rule_opening group ≡ rule_word ++ (space ∷ [])
+unfolding rule_opening
+opening_plain e = rw e
+
+pub opening_numbered : (group : ℕ) → (group ≡ 0 → ⊥) → rule_opening group ≡ (also_word ++ (space ∷ [])) ++ (decimal group ++ (space ∷ []))
+unfolding rule_opening
+opening_numbered zero n = absurd (n refl)
+opening_numbered (suc group) n = refl
+
+pub opening_length : (group : ℕ) → (group ≡ 0 → ⊥) → length (rule_opening group) ≡ 7 + length (decimal group)
+opening_length group n = rw (opening_numbered group n) (simp length-append (omega arith))
+
+pub puts_opening :
+    {l m r s : List ℕ} {at mid next end : ℕ} (group : ℕ) → (group ≡ 0 → ⊥) → Puts l at (also_word ++ (space ∷ [])) mid m →
+    Puts m mid (decimal group) next r → Puts r next (space ∷ []) end s → Puts l at (rule_opening group) end s
+puts_opening group n p q t = rw (opening_numbered group n) (puts_then p (puts_then q t))
+
 -- A rule's line: its head, and its body behind it.
 module _ (rules literals : List ℕ) (row : ℕ) where
   rule_line_lem :
       rule_line rules literals row
-      ≡ (rule_word ++ (space ∷ [])) ++ (decimal (rule_head rules row) ++ body_bytes literals (rule_start rules row) (rule_size rules row))
-  unfolding rule_line line_of rule_form_of rule_at rule_body render body_bytes
-  rule_line_lem = ap (λ (l : List ℕ). rule_word ++ (space ∷ l)) (append_assoc (decimal (rule_head rules row)) _ (line_end ∷ []))
+      ≡ rule_opening (rule_group rules row) ++ (decimal (rule_head rules row) ++ body_bytes literals (rule_start rules row) (rule_size rules row))
+  unfolding rule_line row_form rule_form_of line_of rule_at rule_body render rule_opening body_bytes
+  rule_line_lem = by (rule_group rules row)
+    where
+      by :
+          (group : ℕ) →
+          render (rule_form_of group (record { head = rule_head rules row; body = body_at literals (rule_start rules row) (rule_size rules row) })) ++ (line_end ∷ [])
+          ≡ rule_opening group
+          ++ (decimal (rule_head rules row) ++ (parts_bytes literal_bytes (map literal_text (body_at literals (rule_start rules row) (rule_size rules row))) ++ (line_end ∷ [])))
+      by zero = ap (λ (l : List ℕ). rule_word ++ (space ∷ l)) (append_assoc (decimal (rule_head rules row)) _ (line_end ∷ []))
+      by (suc group) = simp append_assoc
 
   pub rule_length :
-      {head start size : ℕ} → head ≡ rule_head rules row → start ≡ rule_start rules row →
+      {group head start size : ℕ} → group ≡ rule_group rules row → head ≡ rule_head rules row → start ≡ rule_start rules row →
       size ≡ rule_size rules row →
-      length (rule_line rules literals row) ≡ 6 + (length (decimal head) + length (body_bytes literals start size))
-  rule_length h a n = rw (rule_line_lem, h, a, n) (simp length-append (omega arith))
+      length (rule_line rules literals row) ≡ length (rule_opening group) + (length (decimal head) + length (body_bytes literals start size))
+  rule_length g h a n = rw (rule_line_lem, g, h, a, n) (simp length-append)
 
   pub puts_rule :
-      {l m r s : List ℕ} {at mid next end head start size : ℕ} → head ≡ rule_head rules row →
-      start ≡ rule_start rules row → size ≡ rule_size rules row → Puts l at (rule_word ++ (space ∷ [])) mid m →
+      {l m r s : List ℕ} {at mid next end group head start size : ℕ} → group ≡ rule_group rules row → head ≡ rule_head rules row →
+      start ≡ rule_start rules row → size ≡ rule_size rules row → Puts l at (rule_opening group) mid m →
       Puts m mid (decimal head) next r → Puts r next (body_bytes literals start size) end s → Puts l at (rule_line rules literals row) end s
-  puts_rule {head = head} h a n p q t =
-      rw (rule_line_lem, ← h, ← a, ← n) (puts_behind (rule_word ++ (space ∷ [])) (decimal head) (puts_then p q) t)
+  puts_rule {group = group} {head = head} g h a n p q t =
+      rw (rule_line_lem, ← g, ← h, ← a, ← n) (puts_behind (rule_opening group) (decimal head) (puts_then p q) t)
+
+  -- The same if the rule is of a group, and nothing if it is of another.
+  pub line_here : (group : ℕ) → rule_group rules row ≡ group → group_line rules literals group row ≡ rule_line rules literals row
+  unfolding group_line in_group
+  line_here group e = rw (eq-eqb (rule_group rules row) group e)
+
+  pub line_other : (group : ℕ) → (rule_group rules row ≡ group → ⊥) → group_line rules literals group row ≡ []
+  unfolding group_line in_group
+  line_other group n = rw (ne_eqb (rule_group rules row) group n)
 
 -- A clause's line.
 module _ (clauses literals : List ℕ) (row : ℕ) where
@@ -163,10 +203,20 @@ module _ (loads : List ℤ) (load_literals : List ℕ) (minutes : List ℤ) (row
 
 -- ── The lines of all rows ──
 
-pub rules_joined :
-    (rules literals : List ℕ) → render_all (map rule_form_of (rules_of rules literals)) ≡ join_below (rule_count rules) (rule_line rules literals)
-unfolding rules_of rule_line
-rules_joined rules literals = lines_joined rule_form_of (rule_count rules) (rule_at rules literals)
+-- Rules are put group by group. They are as long as in the order of the table, in which they are counted.
+pub rules_joined : (rules literals : List ℕ) → rules_text rules literals ≡ join_below (group_count rules) (group_text rules literals)
+unfolding rules_text rows_by_group rows_of group_text group_line rule_line
+rules_joined rules literals =
+    text_joined (row_form rules literals) (group_count rules) (rows_of rules)
+    ∙ ap (join_below (group_count rules)) (fun_ext (λ group.
+    text_joined (row_form rules literals) (rule_count rules) (λ row. cond (in_group rules group row) (row ∷ []) [])
+    ∙ ap (join_below (rule_count rules)) (fun_ext (λ row. text_listed (row_form rules literals) (in_group rules group row) row))))
+
+pub rules_long : (rules literals : List ℕ) → length (rules_text rules literals) ≡ length (join_below (rule_count rules) (rule_line rules literals))
+unfolding rules_text rule_line
+rules_long rules literals =
+    text_length (row_form rules literals) (rows_by_group rules)
+    ∙ (rows_total rules (λ row. length (line_of (row_form rules literals row))) ∙ sym (length_join (rule_count rules) (λ row. line_of (row_form rules literals row))))
 
 pub clauses_joined :
     (clauses literals : List ℕ) →

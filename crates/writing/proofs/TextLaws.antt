@@ -6,15 +6,15 @@ use mathlib.Core.List.{List, [], ◌∷◌, ◌++◌, map, append_assoc}
 use lib.IntN.{ℤ}
 use lib.ListN.{length, length-append}
 use Rattle.wellfounded.specs.Lists.{count, join_below}
-use Rattle.tables.specs.Rows.{rules_of, clauses_of}
+use Rattle.tables.specs.Rows.{group_count, clauses_of}
 use Rattle.tables.specs.Loads.{loads_of}
 use Rattle.tables.specs.Sound.{Tables}
 use Rattle.tables.specs.internal.Marks.{is_marked}
 use Rattle.format.specs.Forms.{atoms_form, claim_form, space, atoms_word, claim_word, defined_word, decimal, render, render_all}
 use Rattle.printing.specs.internal.Putting.{Puts}
 use Rattle.printing.proofs.PutLaws.{puts_then}
-use Rattle.writing.specs.BookForms.{rule_form_of, clause_form_of, load_form_of, marked_atoms, defined_forms, pairs_of, book_forms, text_of}
-use Rattle.writing.specs.internal.Parts.{pair_part, mark_part, line_of, rows_text}
+use Rattle.writing.specs.BookForms.{clause_form_of, load_form_of, marked_atoms, defined_forms, pairs_of, book_forms, text_of}
+use Rattle.writing.specs.internal.Parts.{pair_part, mark_part, line_of, rules_text, rows_text}
 use Rattle.writing.proofs.PartLaws.{line_close, claim_line_lem, defined_line_lem, text_first, text_one, text_append}
 
 -- ── Three parts ──
@@ -49,7 +49,7 @@ defined_parts n marks some = record { is = defined_line_lem marks n some }
 
 pub rows_parts :
     (rules literals clauses : List ℕ) (loads : List ℤ) (load_literals : List ℕ) (minutes : List ℤ) →
-    Parted (rows_text rules literals clauses loads load_literals minutes) (render_all (map rule_form_of (rules_of rules literals)))
+    Parted (rows_text rules literals clauses loads load_literals minutes) (rules_text rules literals)
     (render_all (map clause_form_of (clauses_of clauses literals))) (render_all (map load_form_of (loads_of loads load_literals minutes)))
 unfolding rows_text
 rows_parts rules literals clauses loads load_literals minutes = record { is = refl }
@@ -67,11 +67,11 @@ abbrev pub book_rows : Tables → List ℕ
 book_rows t = rows_text t.rules t.literals t.clauses t.loads t.load_literals t.minutes
 
 abbrev pub claim_line : Tables → List ℕ → List ℕ → List ℕ
-claim_line t values levels = line_of (claim_form (pairs_of t.atoms 1 values levels))
+claim_line t values levels = line_of (claim_form (pairs_of t.atoms (group_count t.rules) values levels))
 
 module _ (t : Tables) (values levels : List ℕ) where
   text_parts : Parted (text_of t values levels) (atoms_line t) (defined_text t.atoms t) (book_rows t ++ claim_line t values levels)
-  unfolding text_of book_forms rows_text
+  unfolding text_of book_forms rows_text rules_text
   text_parts =
       record { is = text_first _ _ ∙ ap (λ (l : List ℕ). atoms_line t ++ l) (simp (text_append, text_one, append_assoc)) }
 

@@ -49,7 +49,7 @@ module _ (t : Tables) (values levels : List ℕ) (room : ℕ) where
             nowhere = λ k l. ap not (both _ _ (both _ _ (le-leb _ _ f.few_literals) (le-leb _ _ f.few_terms)) (both _ _ (le-leb _ _ f.short) (le-leb _ _ f.roomy)));
           }
 
-  -- A text is written exactly if nothing that is lent has a fault of 11 to 17 or of 31, and 32 does not occur.
+  -- A text is written exactly if nothing that is lent has a fault of 11 to 17, of 31 or of 34, and 32 does not occur.
   pub written_exactly : (write_of t values levels room ≡ Accepted) ↔ (Sound t (claim_slices t values levels) × TextFits t values levels room)
   unfolding write_of write_tests
   written_exactly = (taken, make)
@@ -87,16 +87,21 @@ module _ (t : Tables) (values levels : List ℕ) (room : ℕ) where
       by Accepted short = short refl
       by (Refused fault position) short = omega arith
 
--- A refusal of the writer has a number of 11 to 17, 31 or 32; so none judges a value or a level (21, 22).
+-- A refusal of the writer has a number of 11 to 17, 31, 32 or 34; so none judges a value or a level (21, 22).
 abbrev writers_fault : Fault → Bool
-writers_fault fault = (leb 11 (fault_number fault) && leb (fault_number fault) 17) || (eqb (fault_number fault) 31 || eqb (fault_number fault) 32)
+writers_fault fault =
+    (leb 11 (fault_number fault) && leb (fault_number fault) 17)
+    || (eqb (fault_number fault) 31 || (eqb (fault_number fault) 32 || eqb (fault_number fault) 34))
 
 pub written_faults :
     (t : Tables) (values levels : List ℕ) (room : ℕ) (fault : Fault) (position : ℕ) → write_of t values levels room ≡ Refused fault position →
-    ((11 ≤ fault_number fault) × (fault_number fault ≤ 17)) ⊎ ((fault_number fault ≡ 31) ⊎ (fault_number fault ≡ 32))
+    ((11 ≤ fault_number fault) × (fault_number fault ≤ 17)) ⊎ ((fault_number fault ≡ 31) ⊎ ((fault_number fault ≡ 32) ⊎ (fault_number fault ≡ 34)))
 unfolding write_of write_tests lent_tests table_tests slice_test mark_count_test mark_test text_test all
 written_faults t values levels room fault position e =
     let n = fault_number fault in
     ⊎_elim (λ low. inl (leb-true 11 n (first (leb 11 n) _ low), leb-true n 17 (second (leb 11 n) _ low)))
-    (λ high. inr (⊎_elim (λ m. inl (eqb-true n 31 m)) (λ x. inr (eqb-true n 32 x)) (either (eqb n 31) (eqb n 32) high)))
-    (either (leb 11 n && leb n 17) (eqb n 31 || eqb n 32) (refused_among writers_fault (write_tests t values levels room) refl fault position e))
+    (λ high.
+    inr (⊎_elim (λ m. inl (eqb-true n 31 m))
+    (λ more. inr (⊎_elim (λ x. inl (eqb-true n 32 x)) (λ g. inr (eqb-true n 34 g)) (either (eqb n 32) (eqb n 34) more)))
+    (either (eqb n 31) (eqb n 32 || eqb n 34) high)))
+    (either (leb 11 n && leb n 17) (eqb n 31 || (eqb n 32 || eqb n 34)) (refused_among writers_fault (write_tests t values levels room) refl fault position e))

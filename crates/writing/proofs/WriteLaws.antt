@@ -1,10 +1,9 @@
 -- The verdict of a call of the writer, test by test, and what is answered and left for it.
 -- Assumes nothing.
-use Prim.Native.Nat.{ℕ, ◌*◌, ◌≤◌}
-use mathlib.Core.Path.{◌≡◌, refl, sym, ap, ap₂, ◌∙◌}
+use Prim.Native.Nat.{ℕ, ◌≤◌}
+use mathlib.Core.Path.{◌≡◌, refl, ap, ap₂, ◌∙◌}
 use mathlib.Core.Bool.{true, false, not, ◌&&◌}
 use mathlib.Core.List.{List, [], ◌∷◌}
-use native.Mathlib.Omega.{arith}
 use lib.Dec.{leb}
 use lib.ListN.{length}
 use borrow.Author.Tests.{leb-true}
@@ -14,9 +13,7 @@ use Rattle.tables.specs.declared.Fault.TheVariants.{TextSize}
 use Rattle.tables.specs.declared.Verdict.{Verdict}
 use Rattle.tables.specs.declared.Verdict.TheVariants.{Accepted, Refused}
 use Rattle.tables.specs.Faults.{first_fault}
-use Rattle.tables.specs.Rows.{group_count}
 use Rattle.tables.specs.Sound.{Tables}
-use Rattle.tables.proofs.GroupLaws.{one_group}
 use Rattle.tables.proofs.Faults.{first_passes, first_fails, once_passes, once_fails}
 use Rattle.judging.specs.Judging.{max_bytes}
 use Rattle.forms.proofs.OverLaws.{sets_front}
@@ -25,10 +22,6 @@ use Rattle.writing.specs.declared.Written.{Written}
 use Rattle.writing.specs.BookForms.{text_of}
 use Rattle.writing.specs.Writing.{rows_fit, bytes_fit, text_test, write_of, written_of, buffer_after, Writes}
 use Rattle.writing.specs.internal.Answered.{WritesAs}
-
--- As there is one group of rules so far, a claim has a level for each atom.
-pub one_sized : (rules : List ℕ) (atoms : ℕ) → group_count rules * atoms ≡ atoms
-one_sized rules atoms = rw one_group (omega arith)
 
 -- ── What is answered and left ──
 

@@ -2,6 +2,7 @@
 ghost use Rattle.std.specs.Prelude.{◌≡◌, ◌+◌, ◌*◌, ◌≤◌, length};
 ghost use Rattle.format.specs.Forms.{atoms_form, claim_form, render_all};
 ghost use Rattle.tables.specs.Limits.{max_atoms};
+ghost use Rattle.tables.specs.Rows.{group_count};
 ghost use Rattle.tables.specs.Sound.{lent};
 ghost use Rattle.printing.specs.internal.Putting.{Puts};
 ghost use Rattle.writing.specs.BookForms.{marked_atoms, defined_forms, pairs_of, text_of};
@@ -54,6 +55,7 @@ fn put_claim(text: &mut [u8], at: usize, groups: usize, values: &[u8], levels: &
 fn put_rows(
     text: &mut [u8],
     at: usize,
+    groups: usize,
     rules: &[u16],
     literals: &[u16],
     clauses: &[u16],
@@ -61,7 +63,7 @@ fn put_rows(
     load_literals: &[u16],
     minutes: &[i16],
 ) -> usize
-    requires rules_lie { RulesLie rules.now literals.now }
+    requires rules_lie { RulesLie rules.now literals.now × (groups ≡ group_count rules.now) }
     requires clauses_lie { ClausesLie clauses.now literals.now }
     requires loads_lie { LoadsLie loads.now load_literals.now minutes.now }
     requires minutes_in_bounds { at + length (rows_text rules.now literals.now clauses.now loads.now load_literals.now minutes.now) ≤ length text.old }
@@ -69,7 +71,7 @@ fn put_rows(
         (rows_text rules.now literals.now clauses.now loads.now load_literals.now
         minutes.now) result text.new }
 {
-    let ruled = put_rules(text, at, rules, literals);
+    let ruled = put_rules(text, at, groups, rules, literals);
     let claused = put_clauses(text, ruled, clauses, literals);
     put_loads(text, claused, loads, load_literals, minutes)
 }
@@ -77,6 +79,7 @@ fn put_rows(
 // Puts the text of a book and a claim, and answers how long it is.
 pub fn put_book(
     text: &mut [u8],
+    groups: usize,
     rules: &[u16],
     literals: &[u16],
     clauses: &[u16],
@@ -89,7 +92,7 @@ pub fn put_book(
 ) -> usize
     requires puttable { Puttable
         (lent (length values.now) rules.now literals.now clauses.now loads.now load_literals.now minutes.now marks.now)
-        values.now levels.now }
+        groups values.now levels.now }
     requires levels_in_bounds { length
         (text_of (lent (length values.now) rules.now literals.now clauses.now loads.now load_literals.now minutes.now marks.now)
         values.now levels.now) ≤ length text.old }
@@ -103,6 +106,7 @@ pub fn put_book(
     let listed = put_rows(
         text,
         marked,
+        groups,
         rules,
         literals,
         clauses,
@@ -110,5 +114,5 @@ pub fn put_book(
         load_literals,
         minutes,
     );
-    put_claim(text, listed, 1, values, levels)
+    put_claim(text, listed, groups, values, levels)
 }

@@ -1,22 +1,23 @@
 // How many bytes the parts and the lines of a text have. Widths are added without a branch, so that many are added at a time.
-ghost use Rattle.std.specs.Prelude.{◌≡◌, ◌∷◌, map, ◌+◌, ◌*◌, ◌≤◌, ◌<◌, length};
+ghost use Rattle.std.specs.Prelude.{◌≡◌, [], ◌∷◌, ◌++◌, map, ℕ, ◌+◌, ◌*◌, ◌≤◌, ◌<◌, length};
 ghost use Rattle.wellfounded.specs.Lists.{join_below};
 ghost use Rattle.tables.specs.Limits.{max_atoms};
-ghost use Rattle.tables.specs.Rows.{rule_count, rules_of, clause_count, clauses_of};
+ghost use Rattle.tables.specs.Rows.{rule_count, group_count, clause_count, clauses_of};
 ghost use Rattle.tables.specs.Loads.{load_count, loads_of};
 ghost use Rattle.tables.specs.Sound.{lent};
-ghost use Rattle.format.specs.Forms.{atoms_form, claim_form, space, decimal, literal_bytes, render_all};
+ghost use Rattle.format.specs.Forms.{claim_form, space, opening, closing, decimal, literal_bytes, render_all};
 ghost use Rattle.printing.specs.internal.Putting.{max_printed};
-ghost use Rattle.writing.specs.BookForms.{literal_text, rule_form_of, clause_form_of, load_form_of, marked_atoms, defined_forms, pairs_of, text_of};
-ghost use Rattle.writing.specs.internal.Parts.{literal_part, term_part, level_part, pair_part, mark_part, line_of, body_bytes, terms_bytes, rows_text};
+ghost use Rattle.writing.specs.BookForms.{literal_text, clause_form_of, load_form_of, marked_atoms, defined_forms, pairs_of, text_of};
+ghost use Rattle.writing.specs.internal.Parts.{literal_part, term_part, level_at, value_part, mark_part, line_of, body_bytes, terms_bytes, rule_opening, rules_text, rows_text};
 ghost use Rattle.writing.specs.internal.Parts.{rule_line, clause_line, load_line};
 ghost use Rattle.writing.specs.internal.Lent.{RulesLie, ClausesLie, LoadsLie, Puttable};
-ghost use Rattle.writing.specs.internal.Counting.{Counts, Short, max_entries, max_groups, max_line, max_lines};
+ghost use Rattle.writing.specs.internal.Counting.{Counts, Short, max_entries, max_line, max_lines};
 
 use printing::{signed_width, width};
 use tables::load_rows::{load_count, load_high, load_low, load_size, load_start};
 use tables::rows::{
-    clause_count, clause_size, clause_start, rule_count, rule_head, rule_size, rule_start,
+    clause_count, clause_size, clause_start, rule_count, rule_group, rule_head, rule_size,
+    rule_start,
 };
 
 // A literal and the space before it: `(not A)` is six bytes longer than `A`.
@@ -48,22 +49,34 @@ fn body_length(literals: &[u16], start: usize, size: usize) -> usize
     literals_length(&literals[start..], size) + 2
 }
 
+// What stands before the head of a rule: its word, and its group where that is not 0.
+fn opening_length(group: usize) -> usize
+    requires { group ≤ max_printed }
+    ensures { Counts (rule_opening group) 14 result }
+{
+    if group == 0 {
+        return 6;
+    }
+    7 + width(group)
+}
+
 // The line of a rule.
 fn rule_length(rules: &[u16], literals: &[u16], row: usize) -> usize
     requires rules_lie { RulesLie rules.now literals.now }
     requires row_bound { row < rule_count rules.now }
     ensures { Counts (rule_line rules.now literals.now row) max_line result }
 {
+    let opening = opening_length(rule_group(rules, row));
     let head = width(rule_head(rules, row));
     let body = body_length(literals, rule_start(rules, row), rule_size(rules, row));
-    6 + head + body
+    opening + head + body
 }
 
-// The lines of all rules.
+// The lines of all rules, in whatever order they are put.
 fn rules_length(rules: &[u16], literals: &[u16]) -> usize
     requires rules_lie { RulesLie rules.now literals.now }
     requires rules_len_bound { length rules.now ≤ max_entries }
-    ensures { Counts (render_all (map rule_form_of (rules_of rules.now literals.now))) max_lines result }
+    ensures { Counts (rules_text rules.now literals.now) max_lines result }
 {
     let rows = rule_count(rules);
     let mut total = 0;
@@ -193,43 +206,48 @@ fn level_length(level: u16) -> usize
     1 + width(level as usize)
 }
 
-// The levels of an atom, one for each group.
-fn levels_length(groups: usize, atoms: usize, levels: &[u16], atom: usize) -> usize
-    requires { (atom < atoms) × (length levels.now ≡ groups * atoms) × (groups ≤ max_groups) }
-    ensures { Counts (join_below groups (level_part atoms levels.now atom)) (8 * groups) result }
+// The levels of all groups.
+fn levels_length(levels: &[u16]) -> usize
+    requires { length levels.now ≤ max_entries }
+    ensures { Counts (join_below (length levels.now) (level_at levels.now)) (8 * max_entries) result }
 {
     let mut total = 0;
-    let mut group = 0;
-    let mut place = atom;
-    while group < groups {
+    let mut place = 0;
+    while place < levels.len() {
         total += level_length(levels[place]);
-        group += 1;
-        place += atoms;
+        place += 1;
     }
     total
 }
 
-// The pair of an atom: `(V K ..)` and the space before it.
-fn pair_length(groups: usize, values: &[u8], levels: &[u16], atom: usize) -> usize
-    requires { (atom < length values.now) × (length levels.now ≡ groups * length values.now) × (groups ≤ max_groups) }
-    ensures { Counts (pair_part (length values.now) groups values.now levels.now atom) (10 + 8 * max_groups) result }
+// A value and what stands around a pair: ` (` and `)`.
+fn value_length(value: u8) -> usize
+    ensures { Counts (space ∷ opening ∷ (decimal value ++ (closing ∷ []))) 10 result }
 {
-    3 + width(values[atom] as usize) + levels_length(groups, values.len(), levels, atom)
+    3 + width(value as usize)
 }
 
-// The line of the claim.
-fn claim_length(groups: usize, values: &[u8], levels: &[u16]) -> usize
-    requires { (length levels.now ≡ groups * length values.now) × (length values.now ≤ max_atoms) × (groups ≤ max_groups) }
-    ensures { Counts
-        (line_of (claim_form (pairs_of (length values.now) groups values.now levels.now))) max_line result }
+// The values.
+fn values_length(values: &[u8]) -> usize
+    requires { length values.now ≤ max_atoms }
+    ensures { Counts (join_below (length values.now) (value_part values.now)) (10 * max_atoms) result }
 {
     let mut total = 0;
     let mut atom = 0;
     while atom < values.len() {
-        total += pair_length(groups, values, levels, atom);
+        total += value_length(values[atom]);
         atom += 1;
     }
-    total + 8
+    total
+}
+
+// The line of the claim. Whichever pairs the levels stand in, they have as many bytes, so that these are counted in the order of the slice.
+fn claim_length(values: &[u8], levels: &[u16]) -> usize
+    requires { (length values.now ≤ max_atoms) × (length levels.now ≤ max_entries) }
+    ensures { (groups : ℕ) → length levels.now ≡ groups * length values.now → Counts
+        (line_of (claim_form (pairs_of (length values.now) groups values.now levels.now))) max_line result }
+{
+    values_length(values) + levels_length(levels) + 8
 }
 
 // An atom and the space before it if it is marked.
@@ -280,7 +298,7 @@ pub fn book_length(
 ) -> usize
     requires puttable { Puttable
         (lent (length values.now) rules.now literals.now clauses.now loads.now load_literals.now minutes.now marks.now)
-        values.now levels.now }
+        (group_count rules.now) values.now levels.now }
     requires short { Short rules.now clauses.now loads.now load_literals.now }
     ensures { result ≡ length
         (text_of (lent (length values.now) rules.now literals.now clauses.now loads.now
@@ -289,5 +307,5 @@ pub fn book_length(
     let sized = 9 + width(values.len());
     let marked = defined_length(marks);
     let listed = rows_length(rules, literals, clauses, loads, load_literals, minutes);
-    sized + marked + listed + claim_length(1, values, levels)
+    sized + marked + listed + claim_length(values, levels)
 }

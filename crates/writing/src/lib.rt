@@ -16,6 +16,7 @@ mod totals;
 
 use book::put_book;
 use lengths::book_length;
+use tables::groups::group_count;
 use tables::refusals::first_refusal;
 use tables::sizes::{MAX_BYTES, table_fault};
 use tables::values::not_held_atom;
@@ -46,8 +47,9 @@ fn bytes_fit(bytes: usize, room: usize) -> bool
     (bytes <= MAX_BYTES) & (bytes <= room)
 }
 
-// Writes on tables and slices without a fault of 11 to 17, and N marks: refused for a mark or for the text's size, or written.
+// Writes on tables and slices without a fault of 11 to 17 or of 34, and N marks: refused for a mark or for the text's size, or written.
 fn write_lent(
+    groups: usize,
     rules: &[u16],
     literals: &[u16],
     clauses: &[u16],
@@ -61,7 +63,7 @@ fn write_lent(
 ) -> Written
     requires { Lent
         (lent (length values.now) rules.now literals.now clauses.now loads.now load_literals.now minutes.now marks.now)
-        values.now levels.now }
+        groups values.now levels.now }
     ensures { WritesAs
         (first_fault
         (mark_test (lent (length values.now) rules.now literals.now clauses.now loads.now
@@ -75,7 +77,7 @@ fn write_lent(
 {
     let mark = not_held_atom(marks);
     let fit = rows_fit(rules, clauses, loads);
-    let early = first_refusal(mark, fit, Fault::TextSize);
+    let early = first_refusal(Fault::Mark, mark, fit, Fault::TextSize);
     if let Verdict::Refused(fault, position) = early {
         return refused(fault, position);
     }
@@ -95,6 +97,7 @@ fn write_lent(
     }
     put_book(
         text,
+        groups,
         rules,
         literals,
         clauses,
@@ -146,13 +149,15 @@ pub fn write(
     if values.len() != atoms {
         return refused(Fault::SliceLength, 0);
     }
-    if levels.len() != atoms {
+    let groups = group_count(rules);
+    if levels.len() != groups * atoms {
         return refused(Fault::SliceLength, 0);
     }
     if marks.len() != atoms {
         return refused(Fault::Mark, 0);
     }
     write_lent(
+        groups,
         rules,
         literals,
         clauses,

@@ -2,9 +2,10 @@
 
 use super::chains::{self, Chain};
 use super::dispatch;
+use super::grouped;
 use super::layout::{claim_form, lines, open_form};
 use super::mixed::{self, Measure};
-use crate::book::{Book, Claim};
+use crate::book::{Book, Claim, RULE_WIDTH};
 use crate::calls::Calls;
 use crate::fast::Fast;
 use crate::random::Random;
@@ -76,6 +77,22 @@ impl Books {
         let texts = (0..count).map(|_| texts(sample(family, Measure::TEXT.eighths(eighths), &mut random))).collect();
         Books { samples, texts }
     }
+
+    /// Those of eight groups, as many. The makers do not take them.
+    pub fn of_eight_groups(eighths: usize) -> Books {
+        let mut random = Random::new(2_024 + eighths as u64);
+        let count = 128 / eighths;
+        let samples = (0..count).map(|_| of_groups(Measure::TABLES.eighths(eighths), &mut random)).collect();
+        let texts = (0..count).map(|_| texts(of_groups(grouped::TEXT.eighths(eighths), &mut random))).collect();
+        Books { samples, texts }
+    }
+}
+
+fn of_groups(measure: Measure, random: &mut Random) -> Sample {
+    let (book, claim) = grouped::book(measure, random);
+    assert_eq!(Fast.check(book.tables(), &claim.values, &claim.levels), 0, "a claim of the benchmarks is refused");
+    let occurrences = indexed(&book);
+    Sample { open: vec![0; book.n], book, claim, rounds: 0, occurrences }
 }
 
 fn sample(family: Family, measure: Measure, random: &mut Random) -> Sample {
@@ -104,7 +121,7 @@ fn made(book: &Book, open: &[u8]) -> (Claim, u64) {
 
 /// The number of entries. The families are made so that every book has an index.
 fn indexed(book: &Book) -> usize {
-    let occurrences = book.rules.chunks(3).map(|row| usize::from(row[2])).sum();
+    let occurrences = book.rules.chunks(RULE_WIDTH).map(|row| usize::from(row[2])).sum();
     let answer = Fast.index(book.tables(), &mut vec![0; 2 * book.n + 1], &mut vec![0; occurrences]);
     assert_eq!(answer, 0, "a book of the benchmarks has no index");
     occurrences

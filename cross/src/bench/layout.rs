@@ -1,11 +1,11 @@
 //! Rows laid down one after the other, and the text of a book so laid down.
 
-use crate::book::{Book, Claim};
+use crate::book::{Book, Claim, RULE_WIDTH};
 use std::fmt::Write;
 
 impl Book {
     pub fn add_rule(&mut self, head: u16, body: &[u16]) {
-        self.rules.extend([head, self.literals.len() as u16, body.len() as u16]);
+        self.rules.extend([head, self.literals.len() as u16, body.len() as u16, 0]);
         self.literals.extend(body);
     }
 
@@ -34,8 +34,11 @@ pub fn lines(book: &Book) -> String {
     if book.marks.contains(&1) {
         text += &format!("(defined{})\n", named(&book.marks));
     }
-    for row in book.rules.chunks(3) {
-        text += &format!("(rule {}{})\n", row[0], part(row[1], row[2]));
+    let mut rows: Vec<&[u16]> = book.rules.chunks(RULE_WIDTH).collect();
+    rows.sort_by_key(|row| row[3]);
+    for row in rows {
+        let front = if row[3] == 0 { "rule".into() } else { format!("also {}", row[3]) };
+        text += &format!("({front} {}{})\n", row[0], part(row[1], row[2]));
     }
     for row in book.clauses.chunks(2) {
         text += &format!("(clause{})\n", part(row[0], row[1]));
@@ -61,8 +64,9 @@ fn named(atoms: &[u8]) -> String {
 }
 
 pub fn claim_form(claim: &Claim) -> String {
-    let pairs = claim.values.iter().zip(&claim.levels);
-    format!("(claim{})\n", pairs.map(|(value, level)| format!(" ({value} {level})")).collect::<String>())
+    let n = claim.values.len();
+    let levels = |atom: usize| claim.levels[atom..].iter().step_by(n).map(|level| format!(" {level}")).collect::<String>();
+    format!("(claim{})\n", (0..n).map(|atom| format!(" ({}{})", claim.values[atom], levels(atom))).collect::<String>())
 }
 
 /// Each literal with a space before it.

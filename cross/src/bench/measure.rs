@@ -2,6 +2,7 @@
 
 use super::families::{Books, Sample, SIZES};
 use super::timing::{compare, Patience, Times};
+use crate::book::{ANSWER_PLACES, RULE_WIDTH};
 use crate::calls::{Calls, FollowingSlices, TablesToFill, PAGE_SIZE, TEXT_MAX};
 
 #[derive(Clone, Copy, PartialEq, Eq, Debug)]
@@ -29,6 +30,10 @@ impl Measured {
         Measured::VerdictOnOpen,
         Measured::ReportOnOpen,
     ];
+
+    /// The calls that take books of more than one group.
+    pub const OF_GROUPS: [Measured; 5] =
+        [Measured::Read, Measured::Write, Measured::Check, Measured::Index, Measured::VerdictOnClaim];
 
     pub fn name(self) -> &'static str {
         match self {
@@ -99,7 +104,7 @@ impl Measured {
                     work: &mut lent.work[..n],
                     starts: &mut lent.starts[..2 * n + 1],
                     entries: &mut lent.entries[..sample.occurrences],
-                    counts: &mut lent.counts[..tables.rules.len() / 3],
+                    counts: &mut lent.counts[..tables.rules.len() / RULE_WIDTH],
                 };
                 calls.evaluate_indexed(tables, &sample.open, slices)
             }
@@ -132,7 +137,7 @@ pub struct Lent {
 impl Default for Lent {
     fn default() -> Lent {
         Lent {
-            rules: vec![0; 6_144],
+            rules: vec![0; 8_192],
             literals: vec![0; 16_384],
             clauses: vec![0; 4_096],
             loads: vec![0; 256],
@@ -140,7 +145,7 @@ impl Default for Lent {
             minutes: vec![0; 4_096],
             marks: vec![0; 1_024],
             values: vec![0; 1_024],
-            levels: vec![0; 1_024],
+            levels: vec![0; 8_192],
             work: vec![0; 1_024],
             page: vec![0; PAGE_SIZE],
             text: vec![0; TEXT_MAX],
@@ -164,6 +169,6 @@ impl Lent {
             values: &mut self.values,
             levels: &mut self.levels,
         };
-        calls.read(text, tables, &mut [0; 7])
+        calls.read(text, tables, &mut [0; ANSWER_PLACES])
     }
 }

@@ -3,6 +3,7 @@
 pub mod chains;
 pub mod dispatch;
 pub mod families;
+mod grouped;
 pub mod layout;
 pub mod measure;
 pub mod mixed;

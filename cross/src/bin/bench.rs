@@ -6,6 +6,7 @@ use cross::bench::families::{Books, Family, SIZES};
 use cross::bench::measure::{Lent, Measured};
 use cross::bench::stack;
 use cross::bench::timing::{Patience, Times};
+use cross::book::RULE_WIDTH;
 use cross::calls::Library;
 use std::process::Command;
 use std::time::Duration;
@@ -36,6 +37,7 @@ fn main() {
     for (one, other) in [(Measured::Index, Measured::Check), (Measured::Evaluate, Measured::EvaluateIndexed)] {
         print_over(one, rows(one), other, rows(other));
     }
+    print_groups(patience);
     print_stack(&families);
 }
 
@@ -51,7 +53,7 @@ fn print_families(families: &[Sizes]) {
             "| {} | {} | {} | {} | {} | {} |",
             family.name(),
             average(samples.iter().map(|sample| sample.book.n).sum()),
-            average(samples.iter().map(|sample| sample.book.rules.len() / 3).sum()),
+            average(samples.iter().map(|sample| sample.book.rules.len() / RULE_WIDTH).sum()),
             average(samples.iter().map(|sample| sample.book.entries()).sum()),
             average(samples.iter().map(|sample| sample.rounds as usize).sum()),
             average(texts.iter().map(|text| text.claim.len()).sum()),
@@ -62,7 +64,8 @@ fn print_families(families: &[Sizes]) {
 
 /// The times of one call on one family, from the smallest size to the full one.
 struct Row {
-    family: Family,
+    /// The family, or the call where there is one family.
+    name: &'static str,
     times: [Times; 4],
     /// What the times are divided by, at each size.
     units: [f64; 4],
@@ -71,9 +74,9 @@ struct Row {
 }
 
 impl Row {
-    fn new(measured: Measured, family: Family, sizes: &[Books; 4], patience: Patience) -> Row {
+    fn new(name: &'static str, measured: Measured, sizes: &[Books; 4], patience: Patience) -> Row {
         Row {
-            family,
+            name,
             times: measured.times(sizes, patience),
             units: sizes.each_ref().map(|books| measured.units(books)),
             books: sizes[3].samples.len() as f64,
@@ -92,13 +95,7 @@ impl Row {
         let growth = [self.growth(|times| times.library), self.growth(|times| times.fast)];
         println!(
             "| {} | {ratios} | {:.1} | {:.1} | {:.2} | {:.2} | {:.2} | {:.2} |",
-            self.family.name(),
-            micros[0],
-            micros[1],
-            nanos[0],
-            nanos[1],
-            growth[0],
-            growth[1],
+            self.name, micros[0], micros[1], nanos[0], nanos[1], growth[0], growth[1],
         );
     }
 }
@@ -110,7 +107,7 @@ fn print_table(measured: Measured, families: &[Sizes], patience: Patience) -> Ve
     println!("|---|--:|--:|--:|--:|--:|--:|--:|--:|--:|--:|");
     let (mut rows, mut ratio, mut growth) = (Vec::new(), 0.0, 0.0);
     for (family, sizes) in families {
-        let row = Row::new(measured, *family, sizes, patience);
+        let row = Row::new(family.name(), measured, sizes, patience);
         row.print();
         ratio = row.times.iter().map(Times::ratio).fold(ratio, f64::max);
         growth = f64::max(growth, row.growth(|times| times.library));
@@ -127,11 +124,22 @@ fn print_over(one: Measured, rows: &[Row], other: Measured, other_rows: &[Row]) 
     for (row, other) in rows.iter().zip(other_rows) {
         let ratios: Vec<f64> = row.times.iter().zip(&other.times).map(|(one, other)| one.library / other.library).collect();
         let shown: Vec<String> = ratios.iter().map(|ratio| format!("{ratio:.2}")).collect();
-        println!("| {} | {} |", row.family.name(), shown.join(" | "));
+        println!("| {} | {} |", row.name, shown.join(" | "));
         smallest = ratios.iter().copied().fold(smallest, f64::min);
         largest = ratios.into_iter().fold(largest, f64::max);
     }
     println!("\nSmallest ratio {smallest:.2}, largest {largest:.2}.");
+}
+
+/// The calls that take them on random books of eight groups.
+fn print_groups(patience: Patience) {
+    let sizes = SIZES.map(Books::of_eight_groups);
+    println!("\n### Books of eight groups\n\nTimes are per literal or, for calls on a text and the writer, per byte.\n");
+    println!("| Call | ⅛ | ¼ | ½ | full | µs, library | µs, fast | ns, library | ns, fast | growth, library | fast |");
+    println!("|---|--:|--:|--:|--:|--:|--:|--:|--:|--:|--:|");
+    for measured in Measured::OF_GROUPS {
+        Row::new(measured.name(), measured, &sizes, patience).print();
+    }
 }
 
 /// The most that a call uses on any family's first book of full size.

@@ -29,7 +29,7 @@ use std::{
 };
 
 /// The numbers of the paper. A run in which one of them never is the verdict has lost what it was there for.
-const NUMBERS: [u32; 22] = [0, 1, 2, 3, 4, 11, 12, 13, 14, 15, 16, 17, 21, 22, 23, 24, 25, 26, 27, 31, 32, 33];
+const NUMBERS: [u32; 24] = [0, 1, 2, 3, 4, 11, 12, 13, 14, 15, 16, 17, 21, 22, 23, 24, 25, 26, 27, 31, 32, 33, 34, 35];
 
 struct Options {
     seed: u64,

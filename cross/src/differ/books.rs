@@ -112,7 +112,7 @@ fn some_literals(random: &mut Random, n: usize, most: usize) -> Vec<u16> {
 
 fn scattered(random: &mut Random, n: usize, most_rules: usize, most_literals: usize) -> Vec<Rule> {
     let count = random.below(most_rules.min(MOST_RULES) + 1);
-    (0..count).map(|_| Rule { head: random.below(n) as u16, body: some_literals(random, n, most_literals) }).collect()
+    (0..count).map(|_| Rule::of(random.below(n) as u16, some_literals(random, n, most_literals))).collect()
 }
 
 fn facts(random: &mut Random, n: usize) -> Vec<Rule> {
@@ -130,7 +130,7 @@ fn layers(random: &mut Random, n: usize) -> Vec<Rule> {
         for _ in 0..random.below(3) {
             let count = random.below(4);
             let body = (0..count).map(|_| 2 * atoms[random.below(place)] + random.below(2) as u16).collect();
-            rules.push(Rule { head: atoms[place], body });
+            rules.push(Rule::of(atoms[place], body));
         }
     }
     rules
@@ -145,7 +145,7 @@ fn chain(random: &mut Random, n: usize, sign: u16) -> Vec<Rule> {
         if random.one_in(16) {
             body.push(random.below(2 * n) as u16);
         }
-        Rule { head: pair[1], body }
+        Rule::of(pair[1], body)
     };
     atoms.windows(2).map(rule).collect()
 }
@@ -158,11 +158,11 @@ fn loops(random: &mut Random, n: usize, sign: u16) -> Vec<Rule> {
     while !rest.is_empty() {
         let (members, others) = rest.split_at((1 + random.below(5)).min(rest.len()));
         for (place, &head) in members.iter().enumerate() {
-            rules.push(Rule { head, body: vec![2 * members[(place + 1) % members.len()] + sign] });
+            rules.push(Rule::of(head, vec![2 * members[(place + 1) % members.len()] + sign]));
         }
         match random.below(6) {
             0 => drop(rules.pop()),
-            1 => rules.push(Rule { head: members[0], body: some_literals(random, n, 2) }),
+            1 => rules.push(Rule::of(members[0], some_literals(random, n, 2))),
             _ => {}
         }
         rest = others;

@@ -2,7 +2,7 @@
 
 use super::following;
 use super::forms::{claim_form, open_form, Forms};
-use crate::book::{Book, FollowingLengths, Lengths};
+use crate::book::{Book, FollowingLengths, Lengths, ANSWER_PLACES};
 use std::fmt::{Debug, Display, Formatter, Result};
 
 /// The lengths of the slices that the maker writes.
@@ -124,7 +124,7 @@ impl Case {
 
     /// A reading into tables of the named lengths.
     pub fn read(text: &[u8], lent: Lengths) -> Case {
-        Case::Read { text: text.to_vec(), lent, answer: 7 }
+        Case::Read { text: text.to_vec(), lent, answer: ANSWER_PLACES }
     }
 }
 

@@ -8,7 +8,7 @@ use super::{
     session::{Compared, Found, Held, Session},
     settings,
 };
-use crate::book::{Book, FollowingLengths, Lengths, State};
+use crate::book::{Book, FollowingLengths, Lengths, State, RULE_WIDTH};
 use std::hash::{DefaultHasher, Hash, Hasher};
 
 /// How many tables that are lent to another call there are for each that is given to both makers.
@@ -18,7 +18,7 @@ const TABLES_FOR_A_MAKING: u64 = 4;
 pub fn lengths(book: &Book, written: Written) -> FollowingLengths {
     let Written { values, levels, work } = written;
     let (starts, entries) = indexed::lengths(book);
-    FollowingLengths { values, levels, work, starts, entries, counts: book.rules.len() / 3 }
+    FollowingLengths { values, levels, work, starts, entries, counts: book.rules.len() / RULE_WIDTH }
 }
 
 /// One start, entry or count short or too many, or nothing lent for either.

@@ -1,12 +1,20 @@
 //! A book as forms: easy to put together and to write as a text, and laid down in tables at the end.
 
-use crate::book::Book;
+use crate::book::{Book, RULE_WIDTH};
 use std::fmt::Write;
 
 #[derive(Clone)]
 pub struct Rule {
+    pub group: u16,
     pub head: u16,
     pub body: Vec<u16>,
+}
+
+impl Rule {
+    /// Of group 0.
+    pub fn of(head: u16, body: Vec<u16>) -> Rule {
+        Rule { group: 0, head, body }
+    }
 }
 
 #[derive(Clone)]
@@ -55,7 +63,7 @@ impl Forms {
             book.marks[usize::from(atom)] = 1;
         }
         for rule in &self.rules {
-            book.rules.extend([rule.head, book.literals.len() as u16, rule.body.len() as u16]);
+            book.rules.extend([rule.head, book.literals.len() as u16, rule.body.len() as u16, rule.group]);
             book.literals.extend(&rule.body);
         }
         for clause in &self.clauses {
@@ -72,13 +80,15 @@ impl Forms {
 
     /// The forms that stand in tables, or nothing if a table has no whole rows, a row is past the end or marks are bad.
     pub fn of(book: &Book) -> Option<Forms> {
-        let whole =
-            book.rules.len().is_multiple_of(3) && book.clauses.len().is_multiple_of(2) && book.loads.len().is_multiple_of(4);
+        let whole = book.rules.len().is_multiple_of(RULE_WIDTH)
+            && book.clauses.len().is_multiple_of(2)
+            && book.loads.len().is_multiple_of(4);
         if !whole || book.minutes.len() != book.load_literals.len() {
             return None;
         }
         let literals = |start: u16, count: u16| book.literals.get(start as usize..start as usize + count as usize);
-        let rules = book.rules.chunks_exact(3).map(|row| Some(Rule { head: row[0], body: literals(row[1], row[2])?.to_vec() }));
+        let rule = |row: &[u16]| Some(Rule { group: row[3], head: row[0], body: literals(row[1], row[2])?.to_vec() });
+        let rules = book.rules.chunks_exact(RULE_WIDTH).map(rule);
         let clauses = book.clauses.chunks_exact(2).map(|row| Some(literals(row[0], row[1])?.to_vec()));
         let loads = book.loads.chunks_exact(4).map(|row| load_of(book, row));
         Some(Forms {
@@ -90,14 +100,25 @@ impl Forms {
         })
     }
 
-    /// The text of the book with this state form.
+    /// The same book with its rules by rising group, as a text has them, and those of a group as they stand.
+    pub fn by_group(&self) -> Forms {
+        let mut forms = self.clone();
+        forms.rules.sort_by_key(|rule| rule.group);
+        forms
+    }
+
+    /// The text of the book with this state form. The rules stand by rising group.
     pub fn text(&self, state: &str) -> Vec<u8> {
         let mut text = format!("(atoms {})\n", self.n);
         if !self.declared.is_empty() {
             put_list(&mut text, "defined", self.declared.iter().map(u16::to_string));
         }
-        for rule in &self.rules {
-            put_list(&mut text, &format!("rule {}", rule.head), rule.body.iter().map(|&literal| shown(literal)));
+        for rule in self.by_group().rules {
+            let front = match rule.group {
+                0 => format!("rule {}", rule.head),
+                group => format!("also {group} {}", rule.head),
+            };
+            put_list(&mut text, &front, rule.body.iter().map(|&literal| shown(literal)));
         }
         for clause in &self.clauses {
             put_list(&mut text, "clause", clause.iter().map(|&literal| shown(literal)));
@@ -117,8 +138,30 @@ impl Forms {
         clauses && self.loads.iter().all(|load| (load.lo..=load.hi).contains(&load.sum(values)))
     }
 
-    /// Whether each atom is declared or heads a rule.
+    /// Whether each atom is declared or heads a rule, in a book of group 0.
     pub fn defined(&self) -> Vec<bool> {
+        self.defined_in(0)
+    }
+
+    /// Whether each atom is defined in a group: by a rule of the group or, in group 0, by being declared.
+    pub fn defined_in(&self, group: u16) -> Vec<bool> {
+        self.group(group).heads_or_declared()
+    }
+
+    /// The book of one definition that a group is: its rules alone, and what is declared if it is group 0.
+    pub fn group(&self, group: u16) -> Forms {
+        let rules =
+            self.rules.iter().filter(|rule| rule.group == group).map(|rule| Rule::of(rule.head, rule.body.clone())).collect();
+        let declared = if group == 0 { self.declared.clone() } else { vec![] };
+        Forms { n: self.n, declared, rules, ..Forms::default() }
+    }
+
+    /// The highest group and one more.
+    pub fn groups(&self) -> u16 {
+        1 + self.rules.iter().map(|rule| rule.group).max().unwrap_or(0)
+    }
+
+    fn heads_or_declared(&self) -> Vec<bool> {
         let heads = self.rules.iter().map(|rule| rule.head);
         let mut defined = vec![false; self.n];
         heads.chain(self.declared.iter().copied()).for_each(|atom| defined[usize::from(atom)] = true);
@@ -166,10 +209,12 @@ pub fn open_form(values: &[u8]) -> String {
     form + ")"
 }
 
+/// A pair for each value, with the level at its place and those that stand as many places further on as there are values.
 pub fn claim_form(values: &[u8], levels: &[u16]) -> String {
     let mut form = String::from("(claim");
-    for (value, level) in values.iter().zip(levels) {
-        write!(form, " ({value} {level})").expect("a string takes all that is written to it");
+    for (atom, value) in values.iter().enumerate() {
+        let levels: String = levels.iter().skip(atom).step_by(values.len()).map(|level| format!(" {level}")).collect();
+        write!(form, " ({value}{levels})").expect("a string takes all that is written to it");
     }
     form + ")"
 }

@@ -4,7 +4,7 @@ use super::{
     case::Case,
     session::{Compared, Session},
 };
-use crate::book::{Book, Index, Verdict};
+use crate::book::{Book, Index, Verdict, RULE_WIDTH};
 
 /// How many starts and entries an index has.
 type Lengths = (usize, usize);
@@ -17,7 +17,7 @@ pub fn lengths(book: &Book) -> Lengths {
 
 /// The literals of all bodies, counted by rule.
 pub fn total(book: &Book) -> usize {
-    book.rules.chunks_exact(3).map(|row| usize::from(row[2])).sum()
+    book.rules.chunks_exact(RULE_WIDTH).map(|row| usize::from(row[2])).sum()
 }
 
 /// One start short, one more, one entry short, if there is one, one more, and nothing lent.
@@ -61,7 +61,7 @@ fn tells_rows(book: &Book, index: &Index) -> bool {
 
 fn rows_holding(book: &Book, literal: usize) -> Vec<u16> {
     let mut rows = Vec::new();
-    for (number, row) in book.rules.chunks_exact(3).enumerate() {
+    for (number, row) in book.rules.chunks_exact(RULE_WIDTH).enumerate() {
         let body = &book.literals[row[1].into()..][..row[2].into()];
         rows.extend(body.iter().filter(|&&held| usize::from(held) == literal).map(|_| number as u16));
     }

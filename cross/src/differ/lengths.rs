@@ -15,7 +15,7 @@ pub fn about(random: &mut Random, read: &Read, marking: Marking) -> Lengths {
         load_literals: near(random, book.load_literals.len()),
         minutes: near(random, book.minutes.len()),
         values: near(random, book.n),
-        levels: near(random, book.n),
+        levels: near(random, book.n * read.groups),
         marks: match marking {
             Marking::None => Lengths::FULL.marks,
             Marking::Some => near(random, book.n),
@@ -35,7 +35,7 @@ pub fn exact(read: &Read) -> Lengths {
         minutes: book.minutes.len(),
         marks: book.n,
         values: book.n,
-        levels: book.n,
+        levels: book.n * read.groups,
     }
 }
 

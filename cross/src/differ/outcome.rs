@@ -2,13 +2,13 @@
 
 use super::{case::Case, lending::Lending};
 use crate::{
-    book::{BookText, Claim, Followed, Indexed, Made, MadeIndexed, Read, State, Verdict},
+    book::{BookText, Claim, Followed, Indexed, Made, MadeIndexed, Read, State, Verdict, ANSWER_PLACES},
     calls::PAGE_SIZE,
     solver::Solver,
 };
 use std::fmt::{Display, Formatter, Result};
 
-/// `BATTENPLUM_NO_ANSWER` of the header: the answer of a reading whose `answer` has not seven places.
+/// `BATTENPLUM_NO_ANSWER` of the header: the answer of a reading whose `answer` has not its places.
 const NO_ANSWER: u32 = 0xFFFF_FFFF;
 
 #[derive(PartialEq)]
@@ -98,7 +98,7 @@ pub fn expected(solver: &Solver, case: &Case, before: &Lending) -> Outcome {
             Answer::Length(report.len())
         }
         Case::Check { book, values, levels } => Answer::Verdict(solver.check(book, values, levels).packed()),
-        Case::Read { answer, .. } if *answer != 7 => Answer::Verdict(NO_ANSWER),
+        Case::Read { answer, .. } if *answer != ANSWER_PLACES => Answer::Verdict(NO_ANSWER),
         Case::Read { text, lent, .. } => after_reading(&solver.read(text, lent), &mut after),
         Case::Evaluate { book, open_values, written } => {
             let made = solver.evaluate(book, open_values, written.values, written.levels, written.work);
@@ -124,7 +124,7 @@ fn after_reading(read: &Read, after: &mut Lending) -> Answer {
     let used = [book.rules.len(), book.literals.len(), book.clauses.len(), book.loads.len(), book.minutes.len()];
     let mut answer = vec![book.n as u32];
     answer.extend(used.map(|entries| entries as u32));
-    answer.push(state_number(read.state));
+    answer.extend([state_number(read.state), read.groups as u32]);
     after.answer.write(&answer);
     Answer::Verdict(read.verdict.packed())
 }

@@ -79,6 +79,8 @@ pub fn of_the_paper() -> Vec<Sample> {
 fn proved() -> Vec<Sample> {
     let load = "(load 0 10 (60 3))\n";
     let mutual = "(atoms 2)\n(rule 0 (not 1))\n(rule 1 (not 0))\n";
+    let t1 = "(atoms 2)\n(rule 0 1)\n(also 1 1 0)\n";
+    let t3 = "(atoms 3)\n(rule 0 1)\n(also 1 0)\n(clause (not 1) 2)\n(claim (1 1 1) (1 0 0) (1 0 0))\n";
     vec![
         Sample::page("P1", &book_a(&format!("{load}(open)")), &format!("{P1}(accepted)\n")),
         Sample::page("P2", &book_a(&format!("{load}(open 0)")), P2),
@@ -94,6 +96,9 @@ fn proved() -> Vec<Sample> {
         Sample::page("P8, levels 1,1", &format!("{mutual}(claim (1 1) (0 1))\n"), "(refused 23 0)\n"),
         Sample::page("P9", "(atoms 1)\n(rule 0)\n(claim (1 2))\n", "(refused 22 0)\n"),
         Sample::page("P10", &book_a("(load 0 9 (60 3))\n(open)"), &format!("{P1}(refused 27 0)\n")),
+        Sample::page("T1, both true", &format!("{t1}(claim (1 1 0) (1 0 1))\n"), "(accepted)\n"),
+        Sample::page("T1, both false", &format!("{t1}(claim (0 1 0) (0 0 1))\n"), "(accepted)\n"),
+        Sample::page("T3", t3, "(accepted)\n"),
     ]
 }
 

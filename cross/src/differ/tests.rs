@@ -12,7 +12,7 @@ use super::{
 };
 use crate::random::Random;
 use crate::{
-    book::{Book, FollowingLengths, Lengths},
+    book::{in_group_0, Book, FollowingLengths, Lengths, RULE_WIDTH},
     calls::{Calls, FollowingSlices, Tables, TablesToFill, PAGE_SIZE},
     fast::Fast,
     solver::Solver,
@@ -83,7 +83,7 @@ impl Calls for OneEntryMore {
 
 /// One atom, from its own negation.
 fn one_rule() -> Book {
-    Book { rules: vec![0, 0, 1], literals: vec![1], ..Book::of_atoms(1) }
+    Book { rules: in_group_0(&[0, 0, 1]), literals: vec![1], ..Book::of_atoms(1) }
 }
 
 fn session(side: &dyn Calls) -> Session<'_> {
@@ -94,7 +94,7 @@ fn session(side: &dyn Calls) -> Session<'_> {
 fn an_entry_too_many_is_noticed() {
     assert!(session(&Fast).text(TEXT).is_ok());
     let read = session(&OneEntryMore).compare(Case::read(TEXT, Lengths::FULL)).expect_err("a level was written");
-    assert!(read.what.contains("levels[1023] of 1024"), "{}", read.what);
+    assert!(read.what.contains("levels[8191] of 8192"), "{}", read.what);
     let page = session(&OneEntryMore).compare(Case::report(TEXT, PAGE_SIZE)).expect_err("a byte after the report was written");
     assert!(page.what.contains("page[") && page.what.contains(&format!("of {PAGE_SIZE}")), "{}", page.what);
     let book = Book::of_atoms(1);
@@ -144,7 +144,7 @@ fn the_other_maker_is_asked_too() {
         assert!(calls.compare(Case::evaluate(book, &[value])).is_ok());
         assert_eq!((calls.cases, calls.settings.len()), (cases, settings));
     }
-    let long = Book { rules: [0, 0, 16_384].repeat(2), literals: vec![1; 16_384], ..Book::of_atoms(1) };
+    let long = Book { rules: in_group_0(&[0, 0, 16_384].repeat(2)), literals: vec![1; 16_384], ..Book::of_atoms(1) };
     assert!(calls.compare(Case::evaluate(&long, &[0])).is_ok(), "33 for the other maker is no difference");
     assert_eq!(calls.settings.len(), 3);
 }
@@ -218,7 +218,7 @@ fn another_index_is_noticed() {
 #[test]
 fn the_smallest_following_has_what_differs_and_no_more() {
     let literals = (0..40).map(|place| place % 8).collect();
-    let rules = (0..10).flat_map(|row| [row % 4, 4 * row, 4]).collect();
+    let rules = (0..10).flat_map(|row| [row % 4, 4 * row, 4, 0]).collect();
     let book = Book { rules, literals, ..Book::of_atoms(4) };
     let exact = |book: &Book| following::lengths(book, Written::all(book.n));
     let needed = |case: &Case| match case {
@@ -231,7 +231,7 @@ fn the_smallest_following_has_what_differs_and_no_more() {
     let lent = FollowingLengths { counts: 9, ..exact(&book) };
     let case = Case::evaluate_indexed(&book, &[0, 1, 255, 0], lent);
     let Case::EvaluateIndexed { book, open_values, lent } = smallest(case, PATIENCE, needed) else { panic!("another call") };
-    assert_eq!(book, Book { rules: vec![0, 0, 0], literals: vec![3], ..Book::of_atoms(2) });
+    assert_eq!(book, Book { rules: in_group_0(&[0, 0, 0]), literals: vec![3], ..Book::of_atoms(2) });
     assert_eq!((open_values, lent.starts, lent.entries, lent.counts), (vec![1, 0], 5, 0, 0));
 }
 
@@ -245,19 +245,21 @@ fn the_smallest_text_has_what_differs_and_no_more() {
 #[test]
 fn the_smallest_tables_have_what_differs_and_no_more() {
     let literals = (0..40).map(|place| place % 8).collect();
-    let rules = (0..10).flat_map(|row| [row % 4, 4 * row, 4]).collect();
+    let rules = (0..10).flat_map(|row| [row % 4, 4 * row, 4, 0]).collect();
     let book = Book { rules, literals, marks: vec![0, 1, 1, 0], ..Book::of_atoms(4) };
     let needed = |case: &Case| match case {
         Case::Check { book, .. } => {
             let body = |row: &[u16]| book.literals[row[1] as usize..][..row[2] as usize].to_vec();
-            book.n > 1 && book.marks.contains(&1) && book.rules.chunks_exact(3).any(|row| row[0] == 1 && body(row).contains(&3))
+            book.n > 1
+                && book.marks.contains(&1)
+                && book.rules.chunks_exact(RULE_WIDTH).any(|row| row[0] == 1 && body(row).contains(&3))
         }
         _ => false,
     };
     let Case::Check { book, values, .. } = smallest(Case::check(&book, &[0; 4], &[1; 4]), PATIENCE, needed) else {
         panic!("another call")
     };
-    assert_eq!(book, Book { rules: vec![1, 0, 1], literals: vec![3], marks: vec![0, 1], ..Book::of_atoms(2) });
+    assert_eq!(book, Book { rules: in_group_0(&[1, 0, 1]), literals: vec![3], marks: vec![0, 1], ..Book::of_atoms(2) });
     assert_eq!(values.len(), 2);
 }
 
@@ -265,11 +267,11 @@ fn the_smallest_tables_have_what_differs_and_no_more() {
 #[test]
 fn the_smallest_index_has_what_differs_and_no_more() {
     let literals = (0..40).map(|place| place % 8).collect();
-    let rules = (0..10).flat_map(|row| [row % 4, 4 * row, 4]).collect();
+    let rules = (0..10).flat_map(|row| [row % 4, 4 * row, 4, 0]).collect();
     let book = Book { rules, literals, ..Book::of_atoms(4) };
     let needed = |case: &Case| match case {
         Case::Index { book, starts, entries } => {
-            let total: usize = book.rules.chunks_exact(3).map(|row| usize::from(row[2])).sum();
+            let total: usize = book.rules.chunks_exact(RULE_WIDTH).map(|row| usize::from(row[2])).sum();
             book.literals.contains(&3) && (*starts, entries + 1) == (2 * book.n + 1, total)
         }
         _ => false,
@@ -277,7 +279,7 @@ fn the_smallest_index_has_what_differs_and_no_more() {
     let Case::Index { book, starts, entries } = smallest(Case::index(&book, 9, 39), PATIENCE, needed) else {
         panic!("another call")
     };
-    assert_eq!(book, Book { rules: vec![0, 0, 1], literals: vec![3], ..Book::of_atoms(2) });
+    assert_eq!(book, Book { rules: in_group_0(&[0, 0, 1]), literals: vec![3], ..Book::of_atoms(2) });
     assert_eq!((starts, entries), (5, 0));
 }
 

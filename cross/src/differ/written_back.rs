@@ -58,7 +58,7 @@ impl Session<'_> {
     }
 }
 
-/// The same rules, clauses, load lines and marks with consecutive rows.
+/// The same rules, clauses, load lines and marks with consecutive rows, and with the rules by rising group.
 fn laid_down(book: &Book) -> Option<Book> {
-    Forms::of(book).map(|forms| forms.book())
+    Forms::of(book).map(|forms| forms.by_group().book())
 }

@@ -2,7 +2,7 @@
 
 use super::check::defined_atoms;
 use super::{faults, satisfaction};
-use crate::book::Verdict;
+use crate::book::{Verdict, RULE_WIDTH};
 use crate::calls::Tables;
 
 pub const FALSE: u8 = 0;
@@ -12,7 +12,7 @@ pub const UNDECIDED: u8 = 2;
 /// Rounds and verdict.
 pub fn evaluate(t: Tables, open: &[u8], values: &mut [u8], levels: &mut [u16], work: &mut [u16]) -> (u32, Verdict) {
     let lengths = || faults::of_lengths(t.n, &[open.len(), values.len(), levels.len(), work.len()]);
-    if let Some(fault) = faults::of_tables(&t).or_else(lengths).or_else(|| faults::of_marks(&t)) {
+    if let Some(fault) = faults::of_making(&t).or_else(lengths).or_else(|| faults::of_marks(&t)) {
         return (0, fault);
     }
     let defined = defined_atoms(&t);
@@ -117,7 +117,7 @@ impl<'a> Stage<'a> {
         let mut marked = true;
         while marked {
             marked = false;
-            for row in t.rules.chunks_exact(3) {
+            for row in t.rules.chunks_exact(RULE_WIDTH) {
                 let head = 2 * usize::from(row[0]);
                 if self.truth[head] == UNDECIDED
                     && !usable[head]
@@ -135,7 +135,7 @@ impl<'a> Stage<'a> {
 
     /// The undecided atoms with a rule whose body is all true at this stage. The level tells which are already found.
     fn find_made_true(&self, round: u16, levels: &mut [u16], decided: &mut Decided) {
-        for row in self.t.rules.chunks_exact(3) {
+        for row in self.t.rules.chunks_exact(RULE_WIDTH) {
             let head = usize::from(row[0]);
             if self.truth[2 * head] == UNDECIDED
                 && levels[head] != round

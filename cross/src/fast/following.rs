@@ -3,7 +3,7 @@
 use super::check::defined_atoms;
 use super::evaluate::{of_model, of_setting, FALSE, TRUE, UNDECIDED};
 use super::{faults, indexing};
-use crate::book::Verdict;
+use crate::book::{Verdict, RULE_WIDTH};
 use crate::calls::{FollowingSlices, Tables};
 
 /// Rounds and verdict.
@@ -27,12 +27,12 @@ pub fn evaluate_indexed(t: Tables, open: &[u8], slices: FollowingSlices) -> (u32
     (rounds, of_model(&t, values))
 }
 
-/// The faults before 21, in their order: 11 to 17, 31 and 33.
+/// The faults before 21, in their order: 11 to 16, 34, 35, 17, 31 and 33.
 fn of_lent(t: &Tables, open: &[u8], slices: &FollowingSlices) -> Option<Verdict> {
     let atoms = [open.len(), slices.values.len(), slices.levels.len(), slices.work.len()];
-    faults::of_tables(t)
+    faults::of_making(t)
         .or_else(|| faults::of_lengths(t.n, &atoms))
-        .or_else(|| faults::of_lengths(t.rules.len() / 3, &[slices.counts.len()]))
+        .or_else(|| faults::of_lengths(t.rules.len() / RULE_WIDTH, &[slices.counts.len()]))
         .or_else(|| faults::of_marks(t))
         .or_else(|| indexing::of_size(t, slices.starts.len(), slices.entries.len()))
 }
@@ -141,7 +141,7 @@ impl Rules<'_> {
 
     /// Counts for each rule what it lacks, and makes the heads true of those that lack nothing.
     fn count(&self, wave: &mut Wave, lacking: &Lacking) {
-        for (number, row) in self.rows.chunks_exact(3).enumerate() {
+        for (number, row) in self.rows.chunks_exact(RULE_WIDTH).enumerate() {
             let (start, count) = (usize::from(row[1]), usize::from(row[2]));
             let body = &self.literals[start..start + count];
             let lacks = body.iter().map(|&literal| u16::from(lacking[usize::from(literal)])).sum();
@@ -159,7 +159,7 @@ impl Rules<'_> {
             let count = &mut wave.counts[usize::from(row)];
             *count -= 1;
             if *count == 0 {
-                wave.make_true(self.rows[3 * usize::from(row)]);
+                wave.make_true(self.rows[RULE_WIDTH * usize::from(row)]);
             }
         }
     }

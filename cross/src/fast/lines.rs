@@ -1,8 +1,9 @@
-//! The seven forms. Each is read from behind its word to behind its byte 10 and stored where it has a place; what is stored of a line
+//! The eight forms. Each is read from behind its word to behind its byte 10 and stored where it has a place; what is stored of a line
 //! that is refused does not matter, since a refused text is never copied out.
 
 use super::reader::{FullTables, Used};
 use super::scan::{another, literal, number, signed, stands};
+use crate::book::RULE_WIDTH;
 
 /// A well-formed line: where the next one begins, whether all its numbers and counts are within their limits, and whether its own
 /// parts are in order.
@@ -28,15 +29,32 @@ pub fn atoms(text: &[u8], at: usize, used: &mut Used) -> Option<Line> {
 }
 
 pub fn rule(text: &[u8], at: usize, tables: &mut FullTables, used: &mut Used) -> Option<Line> {
+    rule_of_group(0, text, at, tables, used)
+}
+
+/// A rule with its group, which is not below that of the line before.
+pub fn also(text: &[u8], at: usize, tables: &mut FullTables, used: &mut Used) -> Option<Line> {
+    let (group, at) = number(text, at)?;
+    if text.get(at) != Some(&b' ') {
+        return None;
+    }
+    let line = rule_of_group(group, text, at + 1, tables, used)?;
+    let in_order = group as usize >= used.group;
+    used.group = group as usize;
+    Some(Line { within: line.within & (1..=7).contains(&group), in_order, ..line })
+}
+
+#[inline(always)]
+fn rule_of_group(group: u32, text: &[u8], at: usize, tables: &mut FullTables, used: &mut Used) -> Option<Line> {
     let (head, at) = number(text, at)?;
     let start = used.literals;
     let (at, within) = literals(text, at, tables, used)?;
-    let row = used.rules..used.rules + 3;
+    let row = used.rules..used.rules + RULE_WIDTH;
     used.rules = row.end;
     let place = tables.rules.get_mut(row);
     let within = within & (head <= LAST_ATOM) & place.is_some();
     if let Some(place) = place {
-        place.copy_from_slice(&[head as u16, start as u16, (used.literals - start) as u16]);
+        place.copy_from_slice(&[head as u16, start as u16, (used.literals - start) as u16, group as u16]);
     }
     closed(text, at, within)
 }
@@ -146,25 +164,37 @@ fn named_atoms(text: &[u8], mut at: usize, table: &mut [u8]) -> Option<Line> {
     closed(text, at, within).map(|line| Line { in_order: rising, ..line })
 }
 
-pub fn claim(text: &[u8], mut at: usize, n: usize, tables: &mut FullTables) -> Option<Line> {
+/// A pair for each atom: its value, and its level in each group that there is.
+pub fn claim(text: &[u8], mut at: usize, used: &Used, tables: &mut FullTables) -> Option<Line> {
+    let (n, levels) = (used.n, used.levels());
     let (mut count, mut within) = (0, true);
     while another(text, at)? {
         if !stands(text, at, b" (") {
             return None;
         }
-        let (value, next) = number(text, at + 2)?;
-        if text.get(next) != Some(&b' ') {
-            return None;
+        let (value, mut next) = number(text, at + 2)?;
+        // Pairs beyond the atoms are refused, so that it does not matter where their levels go.
+        let mut place = count;
+        for _ in 0..used.groups() {
+            if text.get(next) != Some(&b' ') {
+                return None;
+            }
+            let level;
+            (level, next) = number(text, next + 1)?;
+            within &= level <= 65_535;
+            if place < levels {
+                tables.levels[place] = level as u16;
+            }
+            place += n;
         }
-        let (level, next) = number(text, next + 1)?;
         if text.get(next) != Some(&b')') {
             return None;
         }
-        match (tables.values.get_mut(count), tables.levels.get_mut(count)) {
-            (Some(place), Some(stage)) => (*place, *stage) = (value as u8, level as u16),
-            _ => within = false,
+        match tables.values.get_mut(count) {
+            Some(place) => *place = value as u8,
+            None => within = false,
         }
-        within &= (value <= 255) & (level <= 65_535);
+        within &= value <= 255;
         count += 1;
         at = next + 1;
     }

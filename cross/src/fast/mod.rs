@@ -21,12 +21,12 @@ mod scan;
 mod tests;
 mod writer;
 
-use crate::book::{Lengths, State, Verdict};
+use crate::book::{Lengths, State, Verdict, ANSWER_PLACES};
 use crate::calls::{Calls, FollowingSlices, Tables, TablesToFill, PAGE_SIZE};
 use page::Made;
 use reader::{FullTables, Used};
 
-/// What the reader answers if `answer` has not seven places.
+/// What the reader answers if `answer` has not its places.
 const NO_ANSWER: u32 = 0xFFFF_FFFF;
 
 pub struct Fast;
@@ -65,7 +65,7 @@ impl Calls for Fast {
     }
 
     fn read(&self, text: &[u8], mut lent: TablesToFill, answer: &mut [u32]) -> u32 {
-        if answer.len() != 7 {
+        if answer.len() != ANSWER_PLACES {
             return NO_ANSWER;
         }
         let mut tables = FullTables::new();
@@ -107,7 +107,7 @@ fn packed((rounds, verdict): (u32, Verdict)) -> u64 {
 fn outcome<T>(tables: &FullTables, used: &Used, tell: impl FnOnce(Option<Made>, Verdict) -> T) -> T {
     let n = used.n;
     match used.state {
-        State::Claim => tell(None, check::check(tables.used(used), &tables.values[..n], &tables.levels[..n])),
+        State::Claim => tell(None, check::check(tables.used(used), &tables.values[..n], &tables.levels[..used.levels()])),
         _ => {
             let (mut values, mut levels, mut work) = ([0; 1_024], [0; 1_024], [0; 1_024]);
             let (values, levels) = (&mut values[..n], &mut levels[..n]);

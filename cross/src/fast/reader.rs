@@ -2,7 +2,7 @@
 
 use super::lines::{self, Line};
 use super::scan::stands;
-use crate::book::{Lengths, State, Verdict};
+use crate::book::{Lengths, State, Verdict, ANSWER_PLACES};
 use crate::calls::{Tables, TablesToFill};
 
 /// The longest text that is read.
@@ -10,7 +10,7 @@ const LONGEST: usize = 65_535;
 
 /// Tables that hold every book.
 pub struct FullTables {
-    pub rules: [u16; 6_144],
+    pub rules: [u16; 8_192],
     pub literals: [u16; 16_384],
     pub clauses: [u16; 4_096],
     pub loads: [i32; 256],
@@ -18,10 +18,10 @@ pub struct FullTables {
     pub minutes: [i16; 4_096],
     pub marks: [u8; 1_024],
     pub values: [u8; 1_024],
-    pub levels: [u16; 1_024],
+    pub levels: [u16; 8_192],
 }
 
-/// N, the entries used in each table, and the state form that was met.
+/// N, the entries used in each table, the state form that was met, and the group of the last `(also ..)` line, 0 before one.
 #[derive(Default)]
 pub struct Used {
     pub n: usize,
@@ -31,13 +31,24 @@ pub struct Used {
     pub loads: usize,
     pub terms: usize,
     pub state: State,
+    pub group: usize,
 }
 
 impl Used {
-    /// The seven places that the C call answers.
-    pub fn answer(&self) -> [u32; 7] {
-        let counts = [self.n, self.rules, self.literals, self.clauses, self.loads, self.terms, self.state as usize];
+    /// The places that the C call answers.
+    pub fn answer(&self) -> [u32; ANSWER_PLACES] {
+        let state = self.state as usize;
+        let counts = [self.n, self.rules, self.literals, self.clauses, self.loads, self.terms, state, self.groups()];
         counts.map(|count| count as u32)
+    }
+
+    pub fn groups(&self) -> usize {
+        self.group + 1
+    }
+
+    /// How many levels a claim has.
+    pub fn levels(&self) -> usize {
+        self.n * self.groups()
     }
 }
 
@@ -45,7 +56,7 @@ impl FullTables {
     #[inline(always)]
     pub fn new() -> FullTables {
         FullTables {
-            rules: [0; 6_144],
+            rules: [0; 8_192],
             literals: [0; 16_384],
             clauses: [0; 4_096],
             loads: [0; 256],
@@ -53,7 +64,7 @@ impl FullTables {
             minutes: [0; 4_096],
             marks: [0; 1_024],
             values: [0; 1_024],
-            levels: [0; 1_024],
+            levels: [0; 8_192],
         }
     }
 
@@ -82,7 +93,7 @@ impl FullTables {
         lent.marks[..used.n].copy_from_slice(from.marks);
         lent.values[..used.n].copy_from_slice(&self.values[..used.n]);
         if used.state == State::Claim {
-            lent.levels[..used.n].copy_from_slice(&self.levels[..used.n]);
+            lent.levels[..used.levels()].copy_from_slice(&self.levels[..used.levels()]);
         }
     }
 }
@@ -93,6 +104,7 @@ enum Place {
     Atoms,
     Defined,
     Rules,
+    Also,
     Clauses,
     Loads,
     State,
@@ -150,6 +162,8 @@ pub fn read(text: &[u8], lent: &Lengths, tables: &mut FullTables) -> Result<Used
 fn form(text: &[u8], at: usize, reached: Place, tables: &mut FullTables, used: &mut Used) -> Option<(Place, Line)> {
     if stands(text, at, b"(rule ") {
         Some((Place::Rules, lines::rule(text, at + 6, tables, used)?))
+    } else if stands(text, at, b"(also ") {
+        Some((Place::Also, lines::also(text, at + 6, tables, used)?))
     } else if stands(text, at, b"(clause") {
         Some((Place::Clauses, lines::clause(text, at + 7, tables, used)?))
     } else if stands(text, at, b"(load ") {
@@ -163,7 +177,7 @@ fn form(text: &[u8], at: usize, reached: Place, tables: &mut FullTables, used: &
         Some((Place::State, lines::open(text, at + 5, atom_limit(reached, used), tables)?))
     } else if stands(text, at, b"(claim") {
         used.state = State::Claim;
-        Some((Place::State, lines::claim(text, at + 6, used.n, tables)?))
+        Some((Place::State, lines::claim(text, at + 6, used, tables)?))
     } else {
         None
     }
@@ -181,10 +195,10 @@ fn atom_limit(reached: Place, used: &Used) -> usize {
 /// Whether the lent tables hold all that was used up to and with a line of this place.
 fn fits(place: Place, used: &Used, lent: &Lengths) -> bool {
     match place {
-        Place::Rules => used.rules <= lent.rules && used.literals <= lent.literals,
+        Place::Rules | Place::Also => used.rules <= lent.rules && used.literals <= lent.literals,
         Place::Clauses => used.clauses <= lent.clauses && used.literals <= lent.literals,
         Place::Loads => used.loads <= lent.loads && used.terms <= lent.load_literals.min(lent.minutes),
-        Place::State => used.n <= lent.marks.min(lent.values) && (used.state == State::Open || used.n <= lent.levels),
+        Place::State => used.n <= lent.marks.min(lent.values) && (used.state == State::Open || used.levels() <= lent.levels),
         Place::Atoms | Place::Defined | Place::End => true,
     }
 }

@@ -1,7 +1,7 @@
 //! `Fast` against the library: every answer and every slice whole, on random texts and tables, sound ones and others.
 
 use super::Fast;
-use crate::book::{Book, FollowingLengths, Verdict};
+use crate::book::{Book, FollowingLengths, Verdict, ANSWER_PLACES, RULE_WIDTH};
 use crate::calls::{Calls, FollowingSlices, Library, TablesToFill, TEXT_MAX};
 use crate::random::Random;
 use std::collections::BTreeSet;
@@ -23,11 +23,11 @@ impl Lent {
     fn new(random: &mut Random, full: bool) -> Lent {
         let mut length = |most: usize| if full || random.below(3) > 0 { most } else { random.below(8) };
         Lent {
-            words: [6_144, 16_384, 4_096, 4_096, 1_024].map(|most| vec![0xA5A5; length(most)]),
+            words: [8_192, 16_384, 4_096, 4_096, 8_192].map(|most| vec![0xA5A5; length(most)]),
             loads: vec![-77; length(256)],
             minutes: vec![-99; length(4_096)],
             bytes: [1_024, 1_024].map(|most| vec![0xC3; length(most)]),
-            answer: vec![0xDDDD; if full || length(8) == 8 { 7 } else { 6 }],
+            answer: vec![0xDDDD; if full || length(8) == 8 { ANSWER_PLACES } else { 7 }],
         }
     }
 
@@ -68,6 +68,11 @@ fn text(random: &mut Random) -> Vec<u8> {
     for _ in 0..random.below(6) {
         lines.push(format!("(rule {}{})", random.below(6), several(random, literal)));
     }
+    let mut group = 0;
+    for _ in 0..random.pick(&[0, 0, 1, 3]) {
+        group = if random.one_in(20) { random.below(10) } else { (group + random.below(4)).clamp(1, 7) };
+        lines.push(format!("(also {group} {}{})", random.below(6), several(random, literal)));
+    }
     for _ in 0..random.below(3) {
         lines.push(format!("(clause{})", several(random, literal)));
     }
@@ -79,7 +84,9 @@ fn text(random: &mut Random) -> Vec<u8> {
         let atoms: String = (0..n).filter(|_| random.one_in(3)).map(|atom| format!(" {atom}")).collect();
         format!("(open{atoms})")
     } else {
-        let pairs: String = (0..n).map(|_| format!(" ({} {})", random.below(2), random.below(3))).collect();
+        let groups = if random.one_in(20) { random.below(9) } else { group + 1 };
+        let levels = |random: &mut Random| (0..groups).map(|_| format!(" {}", random.pick(&[0, 0, 1, 2]))).collect::<String>();
+        let pairs: String = (0..n).map(|_| format!(" ({}{})", random.below(2), levels(random))).collect();
         format!("(claim{pairs})")
     });
     if random.one_in(8) {
@@ -119,7 +126,7 @@ fn texts_are_read_alike() {
         assert_eq!(verdict, Library.verdict(&text), "{shown}");
         met.extend([number(read.0), number(verdict)]);
     }
-    for expected in [0, 1, 2, 3, 4, 12, 15, 16, 21, 22, 23, 24, 25, 26, 27] {
+    for expected in [0, 1, 2, 3, 4, 12, 15, 16, 21, 22, 23, 24, 25, 26, 27, 35] {
         assert!(met.contains(&expected), "no text was refused with {expected}");
     }
 }
@@ -141,6 +148,9 @@ fn long_texts_are_read_alike() {
             format!("(atoms 1024)\n{}(open)\n", declared(1_024 + extra)),
             format!("(atoms 2)\n{}(open)\n", rules(2_048 + extra)),
             format!("(atoms 2)\n{}(open)\n", clauses(2_048 + extra)),
+            format!("(atoms 2)\n{}{}(open)\n", rules(1_024), "(also 7 0)\n".repeat(1_024 + extra)),
+            format!("(atoms 1024)\n(also 7 0)\n(claim{})\n", " (0 0 0 0 0 0 0 0 1)".repeat(1_024 + extra)),
+            format!("(atoms 1024)\n(also 7 0)\n(claim{})\n", format!(" (0{})", " 9".repeat(8 + extra)).repeat(1_024)),
             format!("(atoms 2)\n(clause)\n{}(open)\n", rules(2_048 + extra)),
             format!("(atoms 2)\n{}(open)\n", bodies(16_384 + extra)),
             format!("(atoms 2)\n{}{}(open)\n", bodies(16_383), bodies(1 + extra)),
@@ -176,9 +186,10 @@ fn part(length: usize, random: &mut Random) -> [usize; 2] {
 fn book(random: &mut Random) -> Book {
     let (n, literals, terms) = (random.below(9), random.below(12), random.below(6));
     let mut book = Book { marks: marks(n, random), ..Book::of_atoms(n) };
+    let highest = random.pick(&[0, 0, 0, 1, 2, 7]);
     for _ in 0..random.below(9) {
         let [start, count] = part(literals, random);
-        book.rules.extend([mostly_below(n, random), start, count % 5].map(|entry| entry as u16));
+        book.rules.extend([mostly_below(n, random), start, count % 5, group(random, highest)].map(|entry| entry as u16));
     }
     for _ in 0..random.below(3) {
         book.clauses.extend(part(literals, random).map(|entry| entry as u16));
@@ -193,6 +204,20 @@ fn book(random: &mut Random) -> Book {
         book.rules.push(0);
     }
     book
+}
+
+/// Up to the highest, or rarely one that there is not.
+fn group(random: &mut Random, highest: usize) -> usize {
+    if random.one_in(200) {
+        random.pick(&[8, 9, 65_535])
+    } else {
+        random.below(highest + 1)
+    }
+}
+
+/// How many groups there are, as far as levels can be lent for them.
+fn groups(book: &Book) -> usize {
+    1 + book.rules.chunks_exact(RULE_WIDTH).map(|row| usize::from(row[3])).max().unwrap_or(0).min(9)
 }
 
 /// Mostly none; now and then some, and rarely one too many or one that is no mark.
@@ -218,7 +243,7 @@ fn load_row(terms: usize, random: &mut Random) -> [i32; 4] {
 fn open_values(book: &Book, random: &mut Random) -> Vec<u8> {
     let length = book.n + usize::from(random.one_in(60));
     let mut open: Vec<u8> = (0..length).map(|_| mostly_below(2, random) as u8).collect();
-    let heads = book.rules.iter().step_by(3).map(|&head| usize::from(head));
+    let heads = book.rules.iter().step_by(RULE_WIDTH).map(|&head| usize::from(head));
     for atom in heads.chain((0..book.marks.len()).filter(|&atom| book.marks[atom] == 1)) {
         if let Some(value) = open.get_mut(atom) {
             *value *= u8::from(random.one_in(40));
@@ -247,6 +272,10 @@ fn tables_are_judged_alike() {
             let (value, level) = (random.below(values.len()), random.below(levels.len()));
             (values[value], levels[level]) = (random.below(3) as u8, random.below(5) as u16);
         }
+        if groups(&book) > 1 {
+            values = (0..values.len()).map(|_| random.below(2) as u8).collect();
+            levels = (0..levels.len() * groups(&book)).map(|_| random.pick(&[0, 0, 1])).collect();
+        }
         let checked = Fast.check(book.tables(), &values, &levels);
         assert_eq!(checked, Library.check(book.tables(), &values, &levels), "{book:?} {values:?} {levels:?}");
         let room = random.below(300);
@@ -261,9 +290,9 @@ fn tables_are_judged_alike() {
         met.extend([number(answer as u32), number(checked), number(written[0].0 as u32), number(indexed[0].0)]);
         met_following.insert(number(followed[0].0 as u32));
     }
-    let all = [0].into_iter().chain(11..=17).chain(21..=27).chain(31..=33);
+    let all = [0].into_iter().chain(11..=17).chain(21..=27).chain(31..=35);
     assert_eq!(met, all.collect(), "not every number was met");
-    let all = [0, 21, 31, 33].into_iter().chain(11..=17).chain(25..=27);
+    let all = [0, 21, 31, 33, 34, 35].into_iter().chain(11..=17).chain(25..=27);
     assert_eq!(met_following, all.collect(), "not every number was met by the maker that follows the index");
 }
 
@@ -276,7 +305,7 @@ fn written(calls: &dyn Calls, book: &Book, values: &[u8], levels: &[u16], room: 
 
 /// How many starts and entries are lent: mostly those of the index, now and then one more or less of either.
 fn index_lengths(book: &Book, random: &mut Random) -> (usize, usize) {
-    let entries: usize = book.rules.chunks_exact(3).map(|row| usize::from(row[2])).sum();
+    let entries: usize = book.rules.chunks_exact(RULE_WIDTH).map(|row| usize::from(row[2])).sum();
     let mut near = |length: usize| (length + random.pick(&[1, 1, 1, 1, 1, 0, 2])).saturating_sub(1);
     (near(2 * book.n + 1), near(entries))
 }
@@ -296,8 +325,8 @@ fn following_lengths(book: &Book, random: &mut Random) -> FollowingLengths {
 }
 
 fn exact_lengths(book: &Book) -> FollowingLengths {
-    let (n, counts) = (book.n, book.rules.len() / 3);
-    let entries = book.rules.chunks_exact(3).map(|row| usize::from(row[2])).sum();
+    let (n, counts) = (book.n, book.rules.len() / RULE_WIDTH);
+    let entries = book.rules.chunks_exact(RULE_WIDTH).map(|row| usize::from(row[2])).sum();
     FollowingLengths { values: n, levels: n, work: n, starts: 2 * n + 1, entries, counts }
 }
 
@@ -321,7 +350,7 @@ fn indexed(calls: &dyn Calls, book: &Book, lent: (usize, usize)) -> (u32, Vec<u1
 /// 67 million literals: rows are judged by their counts. To walk them takes far longer than is granted here.
 #[test]
 fn rows_that_share_all_literals_are_judged_at_once() {
-    let (rules, clauses) = ([0, 0, 16_384].repeat(2_048), [0, 16_384].repeat(2_048));
+    let (rules, clauses) = ([0, 0, 16_384, 0].repeat(2_048), [0, 16_384].repeat(2_048));
     let book = Book { rules, clauses, literals: vec![0; 16_384], ..Book::of_atoms(1) };
     for calls in [&Fast as &dyn Calls, &Library] {
         let time = || {
@@ -341,7 +370,7 @@ fn rows_that_share_all_literals_are_judged_at_once() {
 fn sizes_are_judged_alike() {
     let full = Book {
         n: 1_024,
-        rules: vec![0; 6_144],
+        rules: vec![0; 8_192],
         literals: vec![0; 16_384],
         clauses: vec![0; 4_096],
         loads: vec![0; 256],
@@ -349,10 +378,10 @@ fn sizes_are_judged_alike() {
         minutes: vec![0; 4_096],
         marks: vec![1; 1_024],
     };
-    let changes: [fn(&mut Book); 11] = [
+    let changes: [fn(&mut Book); 14] = [
         |_| {},
         |book| book.n += 1,
-        |book| book.rules.extend([0; 3]),
+        |book| book.rules.extend([0; 4]),
         |book| book.literals.push(0),
         |book| book.clauses.extend([0; 2]),
         |book| book.loads.extend([0; 4]),
@@ -361,12 +390,15 @@ fn sizes_are_judged_alike() {
         |book| book.marks.push(1),
         |book| book.marks[1_023] = 255,
         |book| book.marks.clear(),
+        |book| book.rules[8_191] = 1,
+        |book| book.rules[8_191] = 7,
+        |book| book.rules[8_191] = 8,
     ];
     for change in changes {
         let mut book = full.clone();
         change(&mut book);
         for length in [1_024, 1_025] {
-            let (values, levels) = (vec![0; length], vec![0; length]);
+            let (values, levels) = (vec![0; length], vec![0; length * groups(&book)]);
             let checked = [&Fast as &dyn Calls, &Library].map(|calls| calls.check(book.tables(), &values, &levels));
             assert_eq!(checked[0], checked[1]);
             let written = [&Fast as &dyn Calls, &Library].map(|calls| written(calls, &book, &values, &levels, TEXT_MAX));
@@ -385,7 +417,7 @@ fn full_indexes_are_built_alike() {
     let mut random = Random::new(4);
     for (rows, count) in [(2_048, 8), (2_047, 8), (1_820, 9), (1_821, 9), (1, 16_384), (2, 8_192), (2, 8_193)] {
         let literals = (0..16_384).map(|_| random.below(2_048) as u16).collect();
-        let rules = (0..rows).flat_map(|row| [row % 1_024, random.below(16_385 - count) as u16, count as u16]).collect();
+        let rules = (0..rows).flat_map(|row| [row % 1_024, random.below(16_385 - count) as u16, count as u16, 0]).collect();
         let book = Book { rules, literals, ..Book::of_atoms(1_024) };
         let indexed = [&Fast as &dyn Calls, &Library].map(|calls| indexed(calls, &book, (2_049, usize::from(rows) * count)));
         assert_eq!(indexed[0], indexed[1]);

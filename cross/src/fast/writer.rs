@@ -2,15 +2,12 @@
 
 use super::faults;
 use super::printer::{digits, signed_digits, Printer};
-use crate::book::Verdict;
+use crate::book::{Verdict, RULE_WIDTH};
 use crate::calls::{Tables, TEXT_MAX};
 
 /// Writes the text to the front of `text` and answers its length, or writes nothing.
 pub fn write(t: Tables, values: &[u8], levels: &[u16], text: &mut [u8]) -> Result<usize, Verdict> {
-    let lengths = || faults::of_lengths(t.n, &[values.len(), levels.len()]);
-    if let Some(fault) = faults::of_tables(&t).or_else(lengths).or_else(|| faults::of_marks(&t)) {
-        return Err(fault);
-    }
+    let groups = faults::of_claim(&t, values, levels)?;
     let too_large = Verdict::refused(32, 0);
     if rows_too_long(&t) {
         return Err(too_large);
@@ -20,14 +17,14 @@ pub fn write(t: Tables, values: &[u8], levels: &[u16], text: &mut [u8]) -> Resul
         return Err(too_large);
     }
     let mut printer = Printer::new(text.get_mut(..length).ok_or(too_large)?);
-    put_book(&mut printer, &t);
+    put_book(&mut printer, &t, groups);
     put_claim(&mut printer, values, levels);
     Ok(length)
 }
 
 /// Told by the counts alone, since thousands of rows may share their literals.
 fn rows_too_long(t: &Tables) -> bool {
-    let bodies: usize = t.rules.chunks_exact(3).map(|row| usize::from(row[2])).sum();
+    let bodies: usize = t.rules.chunks_exact(RULE_WIDTH).map(|row| usize::from(row[2])).sum();
     let clauses: usize = t.clauses.chunks_exact(2).map(|row| usize::from(row[1])).sum();
     let terms: usize = t.loads.chunks_exact(4).map(|row| row[3] as usize).sum();
     bodies + clauses > 16_384 || terms > 4_096
@@ -54,9 +51,12 @@ fn book_length(t: &Tables) -> usize {
     let atoms = b"(atoms )\n".len() + digits(t.n as u32);
     let named: usize = declared(t).map(|atom| 1 + digits(atom)).sum();
     let defined = if named > 0 { b"(defined)\n".len() + named } else { 0 };
-    let rule = |row: &[u16]| b"(rule )\n".len() + digits(row[0].into()) + literals_length(part(t.literals, row[1], row[2]));
+    let rule = |row: &[u16]| {
+        let group = if row[3] > 0 { b" 1".len() } else { 0 };
+        b"(rule )\n".len() + group + digits(row[0].into()) + literals_length(part(t.literals, row[1], row[2]))
+    };
     let clause = |row: &[u16]| b"(clause)\n".len() + literals_length(part(t.literals, row[0], row[1]));
-    let rules: usize = t.rules.chunks_exact(3).map(rule).sum();
+    let rules: usize = t.rules.chunks_exact(RULE_WIDTH).map(rule).sum();
     let clauses: usize = t.clauses.chunks_exact(2).map(clause).sum();
     let loads: usize = t.loads.chunks_exact(4).map(|row| load_length(t, row)).sum();
     atoms + defined + rules + clauses + loads
@@ -81,19 +81,19 @@ fn load_length(t: &Tables, row: &[i32]) -> usize {
 }
 
 fn claim_length(values: &[u8], levels: &[u16]) -> usize {
-    let pairs = values.iter().zip(levels).map(|(&value, &level)| b" ( )".len() + digits(value.into()) + digits(level.into()));
-    b"(claim)\n".len() + pairs.sum::<usize>()
+    let values = values.iter().map(|&value| b" ()".len() + digits(value.into()));
+    let levels = levels.iter().map(|&level| b" ".len() + digits(level.into()));
+    b"(claim)\n".len() + values.sum::<usize>() + levels.sum::<usize>()
 }
 
-fn put_book(printer: &mut Printer, t: &Tables) {
+fn put_book(printer: &mut Printer, t: &Tables, groups: usize) {
     printer.put(b"(atoms ");
     printer.number(t.n as u32);
     printer.put(b")\n");
     put_declared(printer, t);
-    for row in t.rules.chunks_exact(3) {
-        printer.put(b"(rule ");
-        printer.number(row[0].into());
-        put_literals(printer, part(t.literals, row[1], row[2]));
+    put_rules(printer, t);
+    for group in 1..groups as u16 {
+        put_group(printer, t, group);
     }
     for row in t.clauses.chunks_exact(2) {
         printer.put(b"(clause");
@@ -101,6 +101,26 @@ fn put_book(printer: &mut Printer, t: &Tables) {
     }
     for row in t.loads.chunks_exact(4) {
         put_load(printer, t, row);
+    }
+}
+
+/// The rows of group 0.
+fn put_rules(printer: &mut Printer, t: &Tables) {
+    for row in t.rules.chunks_exact(RULE_WIDTH).filter(|row| row[3] == 0) {
+        printer.put(b"(rule ");
+        printer.number(row[0].into());
+        put_literals(printer, part(t.literals, row[1], row[2]));
+    }
+}
+
+/// The rows of another group.
+fn put_group(printer: &mut Printer, t: &Tables, group: u16) {
+    for row in t.rules.chunks_exact(RULE_WIDTH).filter(|row| row[3] == group) {
+        printer.put(b"(also ");
+        printer.number(group.into());
+        printer.put(b" ");
+        printer.number(row[0].into());
+        put_literals(printer, part(t.literals, row[1], row[2]));
     }
 }
 
@@ -156,11 +176,15 @@ fn put_load(printer: &mut Printer, t: &Tables, row: &[i32]) {
 
 fn put_claim(printer: &mut Printer, values: &[u8], levels: &[u16]) {
     printer.put(b"(claim");
-    for (&value, &level) in values.iter().zip(levels) {
+    for (atom, &value) in values.iter().enumerate() {
         printer.put(b" (");
         printer.number(value.into());
-        printer.put(b" ");
-        printer.number(level.into());
+        let mut place = atom;
+        while let Some(&level) = levels.get(place) {
+            printer.put(b" ");
+            printer.number(level.into());
+            place += values.len();
+        }
         printer.put(b")");
     }
     printer.put(b")\n");

@@ -3,11 +3,11 @@
 //! No stage and no unfounded set occurs here. Fix which atoms the negated literals take to be true; the least model of the rules is
 //! then a plain closure. From too few true atoms it yields too many, from too many too few, and the two close in on the model.
 
-use super::decoded::Decoded;
+use super::decoded::Definition;
 use super::stages::Stage;
 
 /// The well-founded model for the open atoms' values, nothing for an undecided atom.
-pub fn model(book: &Decoded, open_values: &[u8]) -> Stage {
+pub fn model(book: &Definition, open_values: &[u8]) -> Stage {
     let program = Program::new(book, open_values);
     let mut certain = program.facts.clone();
     loop {
@@ -22,14 +22,14 @@ pub fn model(book: &Decoded, open_values: &[u8]) -> Stage {
 
 /// The rules as a least model needs them. A true open atom is a fact, so it is in every least model; a false one is in none.
 struct Program<'a> {
-    book: &'a Decoded,
+    book: &'a Definition,
     facts: Vec<bool>,
     /// For each atom the rows with it as a positive literal.
     rests_on: Vec<Vec<usize>>,
 }
 
 impl Program<'_> {
-    fn new<'a>(book: &'a Decoded, open_values: &[u8]) -> Program<'a> {
+    fn new<'a>(book: &'a Definition, open_values: &[u8]) -> Program<'a> {
         let facts = (0..book.atoms()).map(|atom| !book.defined[atom] && open_values[atom] == 1).collect();
         let mut rests_on = vec![Vec::new(); book.atoms()];
         for (row, rule) in book.rules.iter().enumerate() {

@@ -1,6 +1,6 @@
-//! Sound tables, taken apart into rules, clauses and load lines.
+//! Sound tables, taken apart into definitions, clauses and load lines.
 
-use crate::book::Book;
+use crate::book::{Book, RULE_WIDTH};
 
 /// A literal as stored: 2 × atom, plus 1 if negated.
 #[derive(Clone, Copy, PartialEq, Eq, Debug)]
@@ -25,6 +25,8 @@ impl Literal {
 /// overlap, so this is also what keeps two thousand rows over the whole literal table small.
 #[derive(Clone, Debug)]
 pub struct Rule {
+    /// Its row in the whole table, whatever its group.
+    pub row: usize,
     pub head: usize,
     pub body: Vec<Literal>,
 }
@@ -36,28 +38,42 @@ pub struct LoadLine {
     pub terms: Vec<(i64, Literal)>,
 }
 
-/// A book on sound tables.
+/// The rules of one group, and the atoms that are defined in it: those that head one of them and, in group 0, the declared ones.
 #[derive(Clone, Debug)]
-pub struct Decoded {
+pub struct Definition {
     pub declared: Vec<bool>,
     pub defined: Vec<bool>,
     pub rules: Vec<Rule>,
+}
+
+/// A book on sound tables.
+#[derive(Clone, Debug)]
+pub struct Decoded {
+    /// One for each group, from group 0 to the highest that has a rule.
+    pub definitions: Vec<Definition>,
     pub clauses: Vec<Vec<Literal>>,
     pub load_lines: Vec<LoadLine>,
 }
 
-impl Decoded {
-    pub fn new(book: &Book) -> Decoded {
-        let rules: Vec<Rule> = book
-            .rules
-            .chunks(3)
-            .map(|row| Rule { head: row[0].into(), body: distinct(part(&book.literals, row[1], row[2]), book.n) })
+impl Definition {
+    /// Of the rows of the groups that are chosen. `declares` says whether marks count.
+    pub fn new(book: &Book, declares: bool, chosen: impl Fn(u16) -> bool) -> Definition {
+        let rows = book.rules.chunks(RULE_WIDTH).enumerate().filter(|(_, row)| chosen(row[3]));
+        let rules: Vec<Rule> = rows
+            .map(|(number, row)| {
+                let body = distinct(part(&book.literals, row[1], row[2]), book.n);
+                Rule { row: number, head: row[0].into(), body }
+            })
             .collect();
-        let clauses = book.clauses.chunks(2).map(|row| distinct(part(&book.literals, row[0], row[1]), book.n)).collect();
-        let load_lines = book.loads.chunks(4).map(|row| load_line(book, row)).collect();
-        let declared: Vec<bool> = (0..book.n).map(|atom| book.marks.get(atom) == Some(&1)).collect();
+        let declared: Vec<bool> = (0..book.n).map(|atom| declares && book.marks.get(atom) == Some(&1)).collect();
         let defined = (0..book.n).map(|atom| declared[atom] || heads_a_rule(atom, &rules)).collect();
-        Decoded { declared, defined, rules, clauses, load_lines }
+        Definition { declared, defined, rules }
+    }
+
+    /// That of group 0.
+    #[cfg(test)]
+    pub fn first(book: &Book) -> Definition {
+        Definition::new(book, true, |group| group == 0)
     }
 
     pub fn atoms(&self) -> usize {
@@ -72,6 +88,20 @@ impl Decoded {
     /// How many atoms are defined in both ways.
     pub fn declared_heads(&self) -> usize {
         (0..self.atoms()).filter(|atom| self.declared[*atom] && heads_a_rule(*atom, &self.rules)).count()
+    }
+}
+
+impl Decoded {
+    /// With these definitions.
+    pub fn new(book: &Book, definitions: Vec<Definition>) -> Decoded {
+        let clauses = book.clauses.chunks(2).map(|row| distinct(part(&book.literals, row[0], row[1]), book.n)).collect();
+        let load_lines = book.loads.chunks(4).map(|row| load_line(book, row)).collect();
+        Decoded { definitions, clauses, load_lines }
+    }
+
+    /// The definition of group 0, which every book has.
+    pub fn first(&self) -> &Definition {
+        &self.definitions[0]
     }
 }
 

@@ -5,19 +5,21 @@
 use super::decoded::Literal;
 use super::maker::bad_open_value;
 use super::stages::Stages;
+use super::tables::Lent;
 use super::{Fault, Solver};
-use crate::book::{Book, Claim, Followed, FollowingLengths, Index, Made, MadeIndexed, Verdict};
+use crate::book::{Book, Claim, Followed, FollowingLengths, Index, Made, MadeIndexed, Verdict, RULE_WIDTH};
 
 impl Solver {
     pub fn evaluate_indexed(&self, book: &Book, open_values: &[u8], lent: &FollowingLengths) -> MadeIndexed {
-        if let Some(verdict) = self.table_refusal(book, &[open_values.len(), lent.values, lent.levels, lent.work]) {
+        let lengths = [open_values.len(), lent.values, lent.levels, lent.work];
+        if let Some(verdict) = self.lent_refusal(book, Lent { of_atoms: &lengths, of_levels: None, makes: true }) {
             return MadeIndexed::refused(verdict);
         }
         let decoded = self.decoded(book);
-        if let Some(verdict) = self.following_refusal(book, bad_open_value(&decoded, open_values), lent) {
+        if let Some(verdict) = self.following_refusal(book, bad_open_value(decoded.first(), open_values), lent) {
             return self.refused(book, verdict);
         }
-        let stages = self.last_stages(book, &decoded, open_values);
+        let stages = self.last_stages(book, decoded.first(), open_values);
         let Made { verdict, rounds, written } = self.made_at(&decoded, &stages);
         let written = written.map(|claim| self.followed(book, verdict, &stages, claim, lent));
         MadeIndexed { verdict, rounds, written }
@@ -40,7 +42,7 @@ impl Solver {
 
     /// There is one count for each rule row.
     fn counts_refusal(&self, book: &Book, counts: usize) -> Option<Verdict> {
-        let rows = book.rules.len() / 3;
+        let rows = book.rules.len() / RULE_WIDTH;
         let taken = match self.fault {
             Some(Fault::CountsOneRowShortTaken) => counts == rows || counts + 1 == rows,
             Some(Fault::CountsOneRowLongTaken) => counts == rows || counts == rows + 1,
@@ -63,7 +65,7 @@ impl Solver {
             return Followed { claim, work, ..Followed::default() };
         }
         let index = if self.has(Fault::IndexLeftUnwritten) { Index::default() } else { self.index_of(book) };
-        let mut counts: Vec<u16> = book.rules.chunks(3).map(|row| self.count(book, row, stages)).collect();
+        let mut counts: Vec<u16> = book.rules.chunks(RULE_WIDTH).map(|row| self.count(book, row, stages)).collect();
         counts.truncate(lent.counts);
         Followed { claim, work, index, counts }
     }
@@ -107,19 +109,20 @@ fn queue(levels: &[u16]) -> Vec<u16> {
 mod tests {
     use super::super::small_books::definition;
     use super::*;
+    use crate::book::in_group_0;
     use crate::random::Random;
 
     const SOLVER: Solver = Solver { fault: None };
 
     fn exact(book: &Book) -> FollowingLengths {
-        let (n, rows) = (book.n, book.rules.len() / 3);
-        let entries = book.rules.chunks(3).map(|row| usize::from(row[2])).sum();
+        let (n, rows) = (book.n, book.rules.len() / RULE_WIDTH);
+        let entries = book.rules.chunks(RULE_WIDTH).map(|row| usize::from(row[2])).sum();
         FollowingLengths { values: n, levels: n, work: n, starts: 2 * n + 1, entries, counts: rows }
     }
 
     /// Atom 0 is open, atom 1 rests on it twice, atom 2 on its own negation and on atom 1, atom 3 on nothing.
     fn book() -> Book {
-        Book { rules: vec![1, 0, 2, 2, 1, 4, 3, 5, 0], literals: vec![0, 0, 5, 2, 2], ..Book::of_atoms(4) }
+        Book { rules: in_group_0(&[1, 0, 2, 2, 1, 4, 3, 5, 0]), literals: vec![0, 0, 5, 2, 2], ..Book::of_atoms(4) }
     }
 
     #[test]
@@ -153,7 +156,7 @@ mod tests {
         assert_eq!(refused(&book(), &set, FollowingLengths { starts: 8, ..sound }), (33, 0));
         assert_eq!(refused(&book(), &set, sound), (21, 1));
         assert_eq!(refused(&book(), &set[..3], sound), (17, 0));
-        let past = Book { rules: vec![1, 5, 1], ..marked };
+        let past = Book { rules: in_group_0(&[1, 5, 1]), ..marked };
         assert_eq!(refused(&past, &[], FollowingLengths { counts: 0, ..short }), (12, 0));
     }
 
@@ -170,7 +173,7 @@ mod tests {
             assert_eq!((plain.verdict, plain.rounds), (followed.verdict, followed.rounds), "{book:?} {open:?}");
             assert_eq!(plain.written, followed.written.as_ref().map(|followed| followed.claim.clone()));
             let Some(Followed { claim: Claim { values, levels }, counts, .. }) = followed.written else { continue };
-            let rules = || book.rules.chunks(3).zip(&counts).map(|(row, count)| (usize::from(row[0]), *count));
+            let rules = || book.rules.chunks(RULE_WIDTH).zip(&counts).map(|(row, count)| (usize::from(row[0]), *count));
             assert!(rules().all(|(head, count)| count > 0 || values[head] == 1), "{book:?} {counts:?}");
             let made_true = |atom: usize| rules().any(|(head, count)| head == atom && count == 0);
             assert!((0..n).all(|atom| values[atom] != 1 || levels[atom] == 0 || made_true(atom)), "{book:?} {counts:?}");

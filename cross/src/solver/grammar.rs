@@ -9,6 +9,7 @@ pub enum Form {
     Atoms(i64),
     Defined(Vec<i64>),
     Rule { head: i64, body: Vec<WrittenLiteral> },
+    Also { group: i64, head: i64, body: Vec<WrittenLiteral> },
     Clause(Vec<WrittenLiteral>),
     Load { least: i64, most: i64, terms: Vec<WrittenTerm> },
     Open(Vec<i64>),
@@ -29,11 +30,11 @@ pub struct WrittenTerm {
     pub literal: WrittenLiteral,
 }
 
-/// `(V K)`.
-#[derive(Clone, Copy, PartialEq, Eq, Debug)]
+/// `(V K ..)`. Here it has any number of levels but none; how many are right is known to whoever knows the lines before.
+#[derive(Clone, PartialEq, Eq, Debug)]
 pub struct WrittenPair {
     pub value: i64,
-    pub level: i64,
+    pub levels: Vec<i64>,
 }
 
 /// The form that a line holds, or nothing if it is malformed. The line comes with its byte 10; a line without one is malformed.
@@ -44,6 +45,11 @@ pub fn form(line: &[u8]) -> Option<Form> {
         b"atoms" => Form::Atoms(cursor.after_space(Cursor::natural)?),
         b"defined" => Form::Defined(cursor.list_of_some(Cursor::natural)?),
         b"rule" => Form::Rule { head: cursor.after_space(Cursor::natural)?, body: cursor.list(Cursor::literal)? },
+        b"also" => Form::Also {
+            group: cursor.after_space(Cursor::natural)?,
+            head: cursor.after_space(Cursor::natural)?,
+            body: cursor.list(Cursor::literal)?,
+        },
         b"clause" => Form::Clause(cursor.list(Cursor::literal)?),
         b"load" => Form::Load {
             least: cursor.after_space(Cursor::signed)?,
@@ -120,7 +126,7 @@ impl<'a> Cursor<'a> {
 
     fn pair(&mut self) -> Option<WrittenPair> {
         self.byte(b'(')?;
-        let pair = WrittenPair { value: self.natural()?, level: self.after_space(Cursor::natural)? };
+        let pair = WrittenPair { value: self.natural()?, levels: self.list_of_some(Cursor::natural)? };
         self.byte(b')')?;
         Some(pair)
     }
@@ -172,7 +178,12 @@ mod tests {
         assert_eq!(form(b"(open)\n"), Some(Form::Open(vec![])));
         assert_eq!(form(b"(open 9 2)\n"), Some(Form::Open(vec![9, 2])));
         assert_eq!(form(b"(claim)\n"), Some(Form::Claim(vec![])));
-        assert_eq!(form(b"(claim (2 0))\n"), Some(Form::Claim(vec![WrittenPair { value: 2, level: 0 }])));
+        assert_eq!(form(b"(claim (2 0))\n"), Some(Form::Claim(vec![WrittenPair { value: 2, levels: vec![0] }])));
+        let (one, other) = (WrittenPair { value: 2, levels: vec![0, 9] }, WrittenPair { value: 1, levels: vec![7] });
+        assert_eq!(form(b"(claim (2 0 9) (1 7))\n"), Some(Form::Claim(vec![one, other])));
+        assert_eq!(form(b"(also 9 2)\n"), Some(Form::Also { group: 9, head: 2, body: vec![] }));
+        let body = vec![plain(3), negated(0)];
+        assert_eq!(form(b"(also 0 2 3 (not 0))\n"), Some(Form::Also { group: 0, head: 2, body }));
     }
 
     const MALFORMED: [&[u8]; 50] = [

@@ -1,13 +1,14 @@
 //! The index: where each literal occurs in the bodies of rules, or the refusal.
 
+use super::tables::Lent;
 use super::{limits, Fault, Solver};
-use crate::book::{Book, Index, Indexed, Verdict};
+use crate::book::{Book, Index, Indexed, Verdict, RULE_WIDTH};
 use std::cmp::Reverse;
 
 impl Solver {
     /// `starts` and `entries` are the lengths of the slices that the index is to stand in.
     pub fn index(&self, book: &Book, starts: usize, entries: usize) -> Indexed {
-        if let Some(verdict) = self.table_refusal(book, &[]) {
+        if let Some(verdict) = self.lent_refusal(book, Lent { of_atoms: &[], of_levels: None, makes: false }) {
             return Indexed::refused(verdict);
         }
         let marks = self.mark_or_value_refusal(book, None);
@@ -41,7 +42,7 @@ impl Solver {
         match self.fault {
             Some(Fault::ClausesIndexed) => self.literals_by_row(book),
             Some(Fault::RepeatedLiteralIndexedOnce) => self.occurrences(book).len(),
-            _ => book.rules.chunks(3).map(|row| usize::from(row[2])).sum(),
+            _ => book.rules.chunks(RULE_WIDTH).map(|row| usize::from(row[2])).sum(),
         }
     }
 
@@ -57,10 +58,11 @@ impl Solver {
         Index { starts: (0..=2 * book.n).map(start).collect(), entries: occurrences.iter().map(|(_, row)| *row).collect() }
     }
 
-    /// Each literal of each body with the row of its rule.
+    /// Each literal of each body with the row of its rule, of whatever group.
     fn occurrences(&self, book: &Book) -> Vec<(u16, u16)> {
         let mut occurrences = Vec::new();
-        for (number, row) in book.rules.chunks(3).enumerate() {
+        let left_out = |group: u16| group > 0 && self.has(Fault::HigherGroupsNotIndexed);
+        for (number, row) in book.rules.chunks(RULE_WIDTH).enumerate().filter(|(_, row)| !left_out(row[3])) {
             let (start, count) = (usize::from(row[1]), usize::from(row[2]));
             let mut body: Vec<u16> = (0..count).map(|place| book.literals[start + place]).collect();
             if self.has(Fault::RepeatedLiteralIndexedOnce) {
@@ -76,13 +78,14 @@ impl Solver {
 /// The places of the literal table that lie in a body.
 fn used_by_bodies(book: &Book) -> usize {
     let lies_in = |place: usize, row: &[u16]| (usize::from(row[1])..usize::from(row[1]) + usize::from(row[2])).contains(&place);
-    (0..book.literals.len()).filter(|place| book.rules.chunks(3).any(|row| lies_in(*place, row))).count()
+    (0..book.literals.len()).filter(|place| book.rules.chunks(RULE_WIDTH).any(|row| lies_in(*place, row))).count()
 }
 
 #[cfg(test)]
 mod tests {
     use super::super::small_books::definition;
     use super::*;
+    use crate::book::in_group_0;
     use crate::random::Random;
 
     const SOLVER: Solver = Solver { fault: None };
@@ -91,7 +94,7 @@ mod tests {
     /// line have literals that no body has.
     fn book() -> Book {
         Book {
-            rules: vec![2, 5, 0, 0, 0, 3, 1, 2, 2, 0, 1, 0],
+            rules: in_group_0(&[2, 5, 0, 0, 0, 3, 1, 2, 2, 0, 1, 0]),
             literals: vec![4, 1, 1, 0, 5],
             clauses: vec![3, 2],
             loads: vec![0, 0, 0, 1],
@@ -117,12 +120,12 @@ mod tests {
         for _ in 0..2_000 {
             let n = 1 + random.below(5);
             let book = definition(&mut random, n, 8, 5);
-            let total = book.rules.chunks(3).map(|row| usize::from(row[2])).sum();
+            let total = book.rules.chunks(RULE_WIDTH).map(|row| usize::from(row[2])).sum();
             let Index { starts, entries } = SOLVER.index(&book, 2 * n + 1, total).written.expect("the slices have the lengths");
             assert_eq!((starts.len(), entries.len()), (2 * n + 1, total));
             for literal in 0..2 * n {
                 let mut rows = Vec::new();
-                for (number, row) in book.rules.chunks(3).enumerate() {
+                for (number, row) in book.rules.chunks(RULE_WIDTH).enumerate() {
                     let body = &book.literals[row[1].into()..][..row[2].into()];
                     rows.extend(body.iter().filter(|held| usize::from(**held) == literal).map(|_| number as u16));
                 }
@@ -148,10 +151,14 @@ mod tests {
     /// Two rows over the whole table count it twice; what clauses hold counts nothing.
     #[test]
     fn literals_are_counted_by_rule() {
-        let half =
-            Book { rules: vec![0, 0, 8_192, 0, 0, 8_192], literals: vec![0; 8_192], clauses: vec![0, 8_192], ..Book::of_atoms(1) };
+        let half = Book {
+            rules: in_group_0(&[0, 0, 8_192, 0, 0, 8_192]),
+            literals: vec![0; 8_192],
+            clauses: vec![0, 8_192],
+            ..Book::of_atoms(1)
+        };
         assert_eq!(SOLVER.index(&half, 3, 16_384).verdict, Verdict::ACCEPTED);
-        let more = Book { rules: [half.rules.clone(), vec![0, 0, 1]].concat(), ..half };
+        let more = Book { rules: [half.rules.clone(), vec![0, 0, 1, 0]].concat(), ..half };
         assert_eq!(SOLVER.index(&more, 3, 16_385), Indexed::refused(Verdict::refused(33, 0)));
     }
 }

@@ -1,7 +1,8 @@
 //! The maker: stages from the open values, and the verdict on the model.
 
-use super::decoded::Decoded;
+use super::decoded::{Decoded, Definition};
 use super::stages::Stages;
+use super::tables::Lent;
 use super::{alternating, Fault, Solver};
 use crate::book::{Book, Claim, Made, Verdict};
 use std::{cell::RefCell, rc::Rc};
@@ -9,15 +10,16 @@ use std::{cell::RefCell, rc::Rc};
 impl Solver {
     pub fn evaluate(&self, book: &Book, open_values: &[u8], values_len: usize, levels_len: usize, work_len: usize) -> Made {
         let nothing_written = |verdict| Made { verdict, rounds: 0, written: None };
-        if let Some(verdict) = self.table_refusal(book, &[open_values.len(), values_len, levels_len, work_len]) {
+        let lengths = [open_values.len(), values_len, levels_len, work_len];
+        if let Some(verdict) = self.lent_refusal(book, Lent { of_atoms: &lengths, of_levels: None, makes: true }) {
             return nothing_written(verdict);
         }
         let decoded = self.decoded(book);
-        if let Some(verdict) = self.mark_or_value_refusal(book, bad_open_value(&decoded, open_values)) {
+        if let Some(verdict) = self.mark_or_value_refusal(book, bad_open_value(decoded.first(), open_values)) {
             return nothing_written(verdict);
         }
         let plain = self.of_the_plain_maker();
-        plain.made_at(&decoded, &plain.last_stages(book, &decoded, open_values))
+        plain.made_at(&decoded, &plain.last_stages(book, decoded.first(), open_values))
     }
 
     /// This solver, but for a fault that only the maker has that follows the index.
@@ -27,11 +29,11 @@ impl Solver {
 
     /// The stages of a setting, taken from the last time if that was the same: one case after the other asks for them, of either maker
     /// and to look at what they made.
-    pub(super) fn last_stages(&self, book: &Book, decoded: &Decoded, open_values: &[u8]) -> Rc<Stages> {
+    pub(super) fn last_stages(&self, book: &Book, definition: &Definition, open_values: &[u8]) -> Rc<Stages> {
         LAST.with_borrow_mut(|last| match last {
             Some(last) if last.fault == self.fault && last.open_values == open_values && last.book == *book => last.stages.clone(),
             _ => {
-                let stages = Rc::new(self.confirmed_stages(decoded, open_values));
+                let stages = Rc::new(self.confirmed_stages(definition, open_values));
                 let (fault, book, open_values) = (self.fault, book.clone(), open_values.to_vec());
                 *last = Some(Last { fault, book, open_values, stages: stages.clone() });
                 stages
@@ -40,17 +42,17 @@ impl Solver {
     }
 
     /// Panics where the stages and the alternating fixed point differ: one of them is then wrong, and no answer can be trusted.
-    fn confirmed_stages(&self, book: &Decoded, open_values: &[u8]) -> Stages {
-        let stages = self.stages(book, open_values);
+    fn confirmed_stages(&self, definition: &Definition, open_values: &[u8]) -> Stages {
+        let stages = self.stages(definition, open_values);
         if self.fault.is_none() {
-            confirm(book, open_values, &stages);
+            confirm(definition, open_values, &stages);
         }
         stages
     }
 
     /// What a maker answers of the last stage, and makes of it.
     pub(super) fn made_at(&self, book: &Decoded, stages: &Stages) -> Made {
-        let claim = claim_of(stages, book.atoms());
+        let claim = claim_of(stages, book.first().atoms());
         let undecided = claim.values.iter().position(|value| *value == 2);
         let refusal = undecided.map(|atom| Verdict::refused(25, atom)).or_else(|| self.sentence_refusal(book, &claim.values));
         let verdict = refusal.unwrap_or(Verdict::ACCEPTED);
@@ -70,9 +72,9 @@ struct Last {
     stages: Rc<Stages>,
 }
 
-pub(super) fn bad_open_value(book: &Decoded, open_values: &[u8]) -> Option<usize> {
-    (0..book.atoms()).find(|atom| {
-        let highest = if book.defined[*atom] { 0 } else { 1 };
+pub(super) fn bad_open_value(definition: &Definition, open_values: &[u8]) -> Option<usize> {
+    (0..definition.atoms()).find(|atom| {
+        let highest = if definition.defined[*atom] { 0 } else { 1 };
         open_values[*atom] > highest
     })
 }
@@ -85,12 +87,12 @@ fn claim_of(stages: &Stages, n: usize) -> Claim {
 }
 
 /// Holds the last stage against the second opinion. Not asked of a solver with a deliberate fault, which may well differ.
-fn confirm(book: &Decoded, open_values: &[u8], stages: &Stages) {
-    let second = alternating::model(book, open_values);
+fn confirm(definition: &Definition, open_values: &[u8], stages: &Stages) {
+    let second = alternating::model(definition, open_values);
     for (atom, (first, second)) in stages.model().iter().zip(&second).enumerate() {
         assert_eq!(
             first, second,
-            "atom {atom}: the stages and the alternating fixed point differ on {book:?} with {open_values:?}"
+            "atom {atom}: the stages and the alternating fixed point differ on {definition:?} with {open_values:?}"
         );
     }
 }
@@ -98,13 +100,15 @@ fn confirm(book: &Decoded, open_values: &[u8], stages: &Stages) {
 #[cfg(test)]
 mod tests {
     use super::*;
+    use crate::book::in_group_0;
 
     /// The second opinion is worth something: it notices stages that miss atoms 0 and 1, which rest on each other.
     #[test]
     #[should_panic(expected = "atom 0: the stages and the alternating fixed point differ")]
     fn wrong_stages_are_noticed() {
-        let book = Decoded::new(&Book { rules: vec![0, 0, 1, 1, 1, 1], literals: vec![2, 0], ..Book::of_atoms(2) });
+        let book = Book { rules: in_group_0(&[0, 0, 1, 1, 1, 1]), literals: vec![2, 0], ..Book::of_atoms(2) };
+        let definition = Definition::first(&book);
         let faulty = Solver { fault: Some(Fault::MutualSupport) };
-        confirm(&book, &[0, 0], &faulty.stages(&book, &[0, 0]));
+        confirm(&definition, &[0, 0], &faulty.stages(&definition, &[0, 0]));
     }
 }

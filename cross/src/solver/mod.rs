@@ -10,6 +10,7 @@ mod decoded;
 mod fault;
 mod following;
 mod grammar;
+mod groups;
 mod indexing;
 mod limits;
 mod maker;
@@ -27,9 +28,6 @@ mod small_books;
 
 pub use fault::Fault;
 
-use crate::book::Book;
-use decoded::Decoded;
-
 /// The solver. Its calls stand with the rules they follow: `read` in `reading`, `check` in `claim`, `evaluate` in `maker`,
 /// `verdict` and `report` in `page`, `write` in `writing`, `index` in `indexing`, and `evaluate_indexed` in `following`.
 #[derive(Clone, Copy, Default)]
@@ -40,12 +38,5 @@ pub struct Solver {
 impl Solver {
     fn has(&self, fault: Fault) -> bool {
         self.fault == Some(fault)
-    }
-
-    fn decoded(&self, book: &Book) -> Decoded {
-        if self.has(Fault::MarksIgnored) {
-            return Decoded::new(&Book { marks: vec![0; book.n], ..book.clone() });
-        }
-        Decoded::new(book)
     }
 }

@@ -29,7 +29,7 @@ impl Solver {
     }
 
     fn outcome(&self, text: &[u8]) -> Outcome {
-        let Read { verdict, book, state, values, levels } = self.used(text, &Lengths::FULL);
+        let Read { verdict, book, state, values, levels, .. } = self.used(text, &Lengths::FULL);
         match state {
             State::None => Outcome { verdict, made: None },
             State::Claim => Outcome { verdict: self.check(&book, &values, &levels), made: None },

@@ -1,7 +1,7 @@
 //! The paper's sample calls, the samples to be run, and what else its sentences say of texts and tables.
 
 use super::{Fault, Solver};
-use crate::book::{Book, FollowingLengths, Indexed, Lengths, Made, MadeIndexed, Read, State, Verdict};
+use crate::book::{in_group_0, Book, FollowingLengths, Indexed, Lengths, Made, MadeIndexed, Read, State, Verdict, RULE_WIDTH};
 
 const SOLVER: Solver = Solver { fault: None };
 
@@ -96,7 +96,7 @@ fn book_a_is_laid_down_row_after_row() {
     let read = SOLVER.read(format!("{A}(open 0)\n").as_bytes(), &Lengths::FULL);
     let book = Book {
         n: 4,
-        rules: vec![1, 0, 1, 1, 1, 1, 2, 2, 1, 3, 3, 1],
+        rules: in_group_0(&[1, 0, 1, 1, 1, 1, 2, 2, 1, 3, 3, 1]),
         literals: vec![0, 4, 2, 3, 2, 6],
         clauses: vec![4, 2],
         loads: vec![0, 10, 0, 1],
@@ -104,7 +104,8 @@ fn book_a_is_laid_down_row_after_row() {
         minutes: vec![60],
         marks: vec![0; 4],
     };
-    assert_eq!(read, Read { verdict: Verdict::ACCEPTED, book, state: State::Open, values: vec![1, 0, 0, 0], levels: vec![] });
+    let values = vec![1, 0, 0, 0];
+    assert_eq!(read, Read { verdict: Verdict::ACCEPTED, book, state: State::Open, groups: 1, values, levels: vec![] });
     let claim = SOLVER.read(b"(atoms 2)\n(claim (255 65535) (0 7))\n", &Lengths::FULL);
     assert_eq!((claim.state, claim.values, claim.levels), (State::Claim, vec![255, 0], vec![65_535, 7]));
 }
@@ -246,13 +247,13 @@ fn the_longest_text() {
 #[test]
 fn lent_tables_too_short() {
     let exact =
-        Lengths { rules: 12, literals: 6, clauses: 2, loads: 4, load_literals: 1, minutes: 1, marks: 4, values: 4, levels: 4 };
+        Lengths { rules: 16, literals: 6, clauses: 2, loads: 4, load_literals: 1, minutes: 1, marks: 4, values: 4, levels: 4 };
     let claim = format!("{A}(claim (0 0) (0 1) (0 1) (1 2))\n");
     let open = format!("{A}(open)\n");
     let offset = |part: &str| claim.find(part).expect("part of the text") as u32;
     let answer = |text: &str, lent: Lengths| SOLVER.read(text.as_bytes(), &lent);
     let short = [
-        (Lengths { rules: 11, ..exact }, offset("(rule 3")),
+        (Lengths { rules: 15, ..exact }, offset("(rule 3")),
         (Lengths { literals: 5, ..exact }, offset("(clause")),
         (Lengths { literals: 3, ..exact }, offset("(rule 3")),
         (Lengths { clauses: 1, ..exact }, offset("(clause")),
@@ -284,7 +285,7 @@ fn refused_after(changes: &[Change]) {
         assert_eq!(SOLVER.check(&book, &[0, 0, 0, 1], &[0, 1, 1, 2]), refused, "{book:?}");
         assert_eq!(SOLVER.evaluate(&book, &[0; 4], 4, 4, 4), Made { verdict: refused, rounds: 0, written: None }, "{book:?}");
         assert_eq!(SOLVER.index(&book, 9, 4), Indexed::refused(refused), "{book:?}");
-        let lent = FollowingLengths { values: 4, levels: 4, work: 4, starts: 9, entries: 4, counts: book.rules.len() / 3 };
+        let lent = FollowingLengths { values: 4, levels: 4, work: 4, starts: 9, entries: 4, counts: book.rules.len() / RULE_WIDTH };
         assert_eq!(SOLVER.evaluate_indexed(&book, &[0; 4], &lent), MadeIndexed::refused(refused), "{book:?}");
     }
 }
@@ -294,7 +295,7 @@ fn tables_at_fault() {
     refused_after(&[
         (|book| book.n = 1_025, 11, 0),
         (|book| book.n = usize::MAX, 11, 0),
-        (|book| book.rules = vec![0; 3 * 2_049], 11, 0),
+        (|book| book.rules = vec![0; 4 * 2_049], 11, 0),
         (|book| book.rules.push(0), 11, 0),
         (|book| book.literals = vec![0; 16_385], 11, 0),
         (|book| book.clauses = vec![0; 2 * 2_049], 11, 0),
@@ -303,9 +304,9 @@ fn tables_at_fault() {
         (|book| book.loads.extend([0, 0]), 11, 0),
         (|book| (book.load_literals, book.minutes) = (vec![0; 4_097], vec![0; 4_097]), 11, 0),
         (|book| book.minutes.push(0), 11, 0),
-        (|book| book.rules[3] = 4, 12, 1),
-        (|book| book.rules.extend([0, 7, 0]), 12, 4),
-        (|book| book.rules.extend([0, 65_535, 65_535]), 12, 4),
+        (|book| book.rules[4] = 4, 12, 1),
+        (|book| book.rules.extend([0, 7, 0, 0]), 12, 4),
+        (|book| book.rules.extend([0, 65_535, 65_535, 0]), 12, 4),
         (|book| book.clauses = vec![0, 6, 1, 6], 13, 1),
         (|book| book.clauses.extend([7, 0]), 13, 1),
         (|book| book.loads[3] = 2, 14, 0),
@@ -389,6 +390,150 @@ fn sentences_at_fault() {
     assert_eq!(report("(atoms 0)\n(claim)\n"), "(accepted)\n");
 }
 
+/// Document 000's T1: two definitions of one rule each, P from Q and Q from P. Both true and both false are accepted; joined into one
+/// definition the rules have one model, in which both are false.
+#[test]
+fn t1_two_definitions_have_two_models() {
+    let apart = "(atoms 2)\n(rule 0 1)\n(also 1 1 0)\n";
+    assert_eq!(report_on(apart, "(claim (1 1 0) (1 0 1))"), "(accepted)\n");
+    assert_eq!(report_on(apart, "(claim (0 1 0) (0 0 1))"), "(accepted)\n");
+    assert_eq!(report_on(apart, "(claim (1 1 0) (0 0 1))"), "(refused 23 0)\n");
+    assert_eq!(report_on(apart, "(claim (0 1 0) (1 0 1))"), "(refused 23 1)\n");
+    let joined = "(atoms 2)\n(rule 0 1)\n(rule 1 0)\n";
+    assert_eq!(report_on(joined, "(claim (1 1) (1 2))"), "(refused 23 0)\n");
+    assert_eq!(report_on(joined, "(claim (1 2) (1 1))"), "(refused 23 1)\n");
+    assert_eq!(report_on(joined, "(claim (0 1) (0 1))"), "(accepted)\n");
+}
+
+/// T3: P from Q is one definition, the fact P another, and there is the clause not Q or R.
+#[test]
+fn t3_has_one_model() {
+    let text = |values: usize, levels: [usize; 6]| {
+        let pairs: String =
+            (0..3).map(|atom| format!(" ({} {} {})", values >> atom & 1, levels[2 * atom], levels[2 * atom + 1])).collect();
+        format!("(atoms 3)\n(rule 0 1)\n(also 1 0)\n(clause (not 1) 2)\n(claim{pairs})\n")
+    };
+    assert_eq!(report(&text(0b111, [1, 1, 0, 0, 0, 0])), "(accepted)\n");
+    for values in 0..8 {
+        for index in 0..3_usize.pow(6) {
+            let levels = [1, 3, 9, 27, 81, 243].map(|unit| index / unit % 3);
+            let accepted = verdict(&text(values, levels)).0 == 0;
+            assert_eq!(accepted, values == 0b111 && levels == [1, 1, 0, 0, 0, 0], "{values} {levels:?}");
+        }
+    }
+}
+
+#[test]
+fn groups_of_a_text() {
+    let also = "(atoms 1)\n(also 1 0)\n";
+    let stated = [
+        (format!("{also}(open)\n"), (35, 0)),
+        ("(atoms 1)\n(rule 0)\n(also 1 0)\n(also 7 0)\n(open)\n".into(), (35, 1)),
+        ("(atoms 1)\n(rule 1)\n(also 1 0)\n(open)\n".into(), (12, 0)),
+        ("(atoms 1)\n(also 1 1)\n(open)\n".into(), (12, 0)),
+        (format!("{also}(claim (1 0))\n"), (1, 21)),
+        (format!("{also}(claim (1 0 1))\n"), (0, 0)),
+        (format!("{also}(claim (1 0 1 0))\n"), (1, 21)),
+        (format!("{also}(claim (256 0))\n"), (1, 21)),
+        (format!("{also}(claim (0 65535 65536))\n"), (2, 21)),
+        (format!("{also}(claim)\n"), (3, 21)),
+        ("(atoms 0)\n(claim)\n".into(), (0, 0)),
+        ("(claim (0 0))\n".into(), (3, 0)),
+        ("(claim (0 0 0))\n".into(), (1, 0)),
+        ("(atoms 1)\n(also 8 0)\n(open)\n".into(), (2, 10)),
+        ("(atoms 1)\n(also 0 0)\n(open)\n".into(), (2, 10)),
+        (format!("{also}(also 0 0)\n(open)\n"), (2, 21)),
+        ("(atoms 1)\n(also 2 0)\n(also 1 0)\n(open)\n".into(), (3, 21)),
+        (format!("{also}(rule 0)\n(open)\n"), (3, 21)),
+        ("(atoms 1)\n(clause)\n(also 1 0)\n(open)\n".into(), (3, 19)),
+        ("(atoms 1)\n(clause)\n(also 9 0)\n(open)\n".into(), (2, 19)),
+        ("(also 1 0)\n".into(), (3, 0)),
+        ("(atoms 1)\n(also 1)\n(open)\n".into(), (1, 10)),
+        ("(atoms 1)\n(also)\n(open)\n".into(), (1, 10)),
+        ("(atoms 1)\n(also 5 0)\n(claim (1 0 0 0 0 0 1))\n".into(), (0, 0)),
+        ("(atoms 1)\n(also 5 0)\n(claim (1 0 1))\n".into(), (1, 21)),
+    ];
+    for (text, due) in stated {
+        assert_eq!(verdict(&text), due, "{text}");
+    }
+    let read = SOLVER.read(b"(atoms 2)\n(rule 1)\n(also 2 0 (not 1))\n(claim (0 1 2 3) (1 4 5 6))\n", &Lengths::FULL);
+    assert_eq!((read.groups, read.levels), (3, vec![1, 4, 2, 5, 3, 6]));
+    assert_eq!(read.book.rules, [1, 0, 0, 0, 0, 0, 1, 2]);
+}
+
+/// A marked atom is defined in group 0 and open in a higher group in which it heads no rule.
+#[test]
+fn marks_define_in_group_0_alone() {
+    let book = "(atoms 2)\n(defined 0)\n(also 1 1 (not 0))\n";
+    assert_eq!(report_on(book, "(claim (0 1 0) (1 0 1))"), "(accepted)\n");
+    assert_eq!(report_on(book, "(claim (0 1 1) (1 0 1))"), "(refused 22 0)\n");
+    assert_eq!(report_on(book, "(claim (1 1 0) (0 0 1))"), "(refused 23 0)\n");
+}
+
+/// Lower groups first within a number, and each number in all groups before the next.
+#[test]
+fn numbers_come_before_groups() {
+    let book = "(atoms 2)\n(rule 1)\n(also 1 0 0)\n";
+    assert_eq!(report_on(book, "(claim (1 0 0) (1 1 0))"), "(refused 22 0)\n");
+    assert_eq!(report_on(book, "(claim (1 0 1) (1 2 0))"), "(refused 22 1)\n");
+    assert_eq!(report_on(book, "(claim (1 0 2) (1 2 0))"), "(refused 22 1)\n");
+    assert_eq!(report_on(book, "(claim (1 0 1) (0 1 0))"), "(refused 23 0)\n");
+    assert_eq!(report_on(book, "(claim (0 0 1) (0 1 0))"), "(refused 24 0)\n");
+    let book = "(atoms 2)\n(rule 0 0)\n(also 1 0 (not 0))\n(also 1 1)\n";
+    assert_eq!(report_on(book, "(claim (0 1 1) (0 0 1))"), "(refused 24 1)\n");
+    assert_eq!(report_on(book, "(claim (0 1 2) (1 0 1))"), "(refused 24 1)\n");
+}
+
+#[test]
+fn groups_of_tables_at_fault() {
+    let (one, eight) = ([0, 0, 0, 1], [0, 0, 0, 8]);
+    let book = |rows: &[[u16; 4]]| Book { rules: rows.concat(), ..Book::of_atoms(1) };
+    let check = |book: &Book, levels: usize| {
+        let verdict = SOLVER.check(book, &[1], &vec![1; levels]);
+        (verdict.number, verdict.position)
+    };
+    assert_eq!(check(&book(&[one, eight]), 1), (34, 1));
+    assert_eq!(check(&book(&[[0, 0, 0, 65_535], one]), 1), (34, 0));
+    assert_eq!(check(&book(&[[0, 1, 0, 8]]), 1), (12, 0));
+    assert_eq!(check(&book(&[one]), 1), (17, 0));
+    assert_eq!(check(&book(&[one]), 3), (17, 0));
+    assert_eq!(check(&book(&[[0, 0, 0, 0], one]), 2), (0, 0));
+    let marked = |rows: &[[u16; 4]]| Book { marks: vec![2], ..book(rows) };
+    let made = |book: &Book, length: usize| {
+        let (plain, lent) = (
+            SOLVER.evaluate(book, &[9], length, 1, 1),
+            FollowingLengths { values: length, levels: 1, work: 1, starts: 0, entries: 0, counts: 0 },
+        );
+        assert_eq!(SOLVER.evaluate_indexed(book, &[9], &lent).verdict, plain.verdict);
+        (plain.verdict.number, plain.verdict.position)
+    };
+    assert_eq!(made(&marked(&[[0, 0, 0, 0], one]), 0), (35, 1));
+    assert_eq!(made(&marked(&[one, eight]), 0), (34, 1));
+    assert_eq!(made(&marked(&[[0, 0, 0, 0]]), 0), (17, 0));
+    assert_eq!(SOLVER.index(&marked(&[eight]), 0, 0).verdict, Verdict::refused(34, 0));
+    assert_eq!(SOLVER.index(&marked(&[one]), 0, 0).verdict, Verdict::refused(31, 0));
+    assert_eq!(SOLVER.write(&marked(&[eight]), &[], &[], 0).verdict, Verdict::refused(34, 0));
+    assert_eq!(SOLVER.write(&marked(&[one]), &[1], &[1], 0).verdict, Verdict::refused(17, 0));
+    assert_eq!(SOLVER.write(&book(&[one]), &[1], &[1, 2], 0).verdict, Verdict::refused(32, 0));
+}
+
+/// The writer puts rows by rising group; reading back yields that order.
+#[test]
+fn rows_are_written_by_group() {
+    let rows = [[0, 0, 1, 2], [1, 1, 0, 0], [1, 0, 2, 1], [0, 1, 1, 2], [0, 0, 0, 0]];
+    let book = Book { rules: rows.concat(), literals: vec![2, 1], ..Book::of_atoms(2) };
+    let text =
+        "(atoms 2)\n(rule 1)\n(rule 0)\n(also 1 1 1 (not 0))\n(also 2 0 1)\n(also 2 0 (not 0))\n(claim (7 1 3 5) (8 2 4 6))\n";
+    let written = SOLVER.write(&book, &[7, 8], &[1, 2, 3, 4, 5, 6], 1_000);
+    assert_eq!(String::from_utf8(written.bytes).as_deref(), Ok(text));
+    let read = SOLVER.read(text.as_bytes(), &Lengths::FULL);
+    assert_eq!(
+        read.book.rules.chunks(RULE_WIDTH).map(|row| (row[0], row[3])).collect::<Vec<_>>(),
+        [(1, 0), (0, 0), (1, 1), (0, 2), (0, 2)]
+    );
+    assert_eq!((read.values, read.levels), (vec![7, 8], vec![1, 2, 3, 4, 5, 6]));
+}
+
 #[test]
 fn undecided_atoms_are_printed_at_level_0() {
     let page = report("(atoms 4)\n(rule 0)\n(rule 1 (not 1) 0)\n(rule 2 (not 0))\n(clause)\n(open 3)\n");
@@ -430,7 +575,7 @@ fn spoilt_by(fault: Fault, solver: &Solver) -> String {
         Fault::HigherLevelsFirst => "(atoms 2)\n(rule 0)\n(open)\n",
         Fault::MarksIgnored => "(atoms 1)\n(defined 0)\n(open)\n",
         Fault::DeclaredHeadsCountedTwice => "(atoms 1)\n(defined 0)\n(rule 0)\n(claim (1 2))\n",
-        Fault::EmptyRowPastTheEnd => return checked(solver, Book { rules: vec![0, 1, 0], ..Book::of_atoms(1) }, [1]),
+        Fault::EmptyRowPastTheEnd => return checked(solver, Book { rules: in_group_0(&[0, 1, 0]), ..Book::of_atoms(1) }, [1]),
         Fault::ValuesBeforeMarks => return checked(solver, Book { marks: vec![2], ..Book::of_atoms(1) }, [2]),
         Fault::MarksOfOtherLengthAs17 => return checked(solver, Book { marks: vec![], ..Book::of_atoms(1) }, [0]),
         Fault::MarksBeyondTheAtomsCleared => return format!("{:?}", solver.read(open, &Lengths::FULL)),
@@ -441,26 +586,30 @@ fn spoilt_by(fault: Fault, solver: &Solver) -> String {
         Fault::SizeBeforeMarks => return written(solver, Book { marks: vec![2], ..Book::default() }, 0, 0),
         Fault::MinusLost => return written(solver, Book { loads: vec![-1, 0, 0, 0], ..Book::default() }, 0, 100),
         Fault::DeclaredHeadsLeftOut => {
-            return written(solver, Book { rules: vec![0; 3], marks: vec![1], ..Book::default() }, 0, 100)
+            return written(solver, Book { rules: vec![0; 4], marks: vec![1], ..Book::default() }, 0, 100)
         }
         Fault::SharedLiteralsCountedOnce => {
-            let (rules, clauses) = (vec![0, 0, 8_192], vec![0, 8_193]);
+            let (rules, clauses) = (in_group_0(&[0, 0, 8_192]), vec![0, 8_193]);
             return written(solver, Book { rules, clauses, literals: vec![0; 8_193], ..Book::default() }, 0, 100_000);
         }
         Fault::LongTextWritten => {
             let (clauses, literals) = (vec![0, 16_384], vec![1; 16_384]);
             return written(solver, Book { clauses, literals, ..Book::default() }, 0, 200_000);
         }
-        Fault::RowsFalling => return indexed(solver, Book { rules: vec![0, 0, 1, 0, 0, 1], ..Book::default() }, 3, 2),
-        Fault::RepeatedLiteralIndexedOnce => return indexed(solver, Book { rules: vec![0, 0, 2], ..Book::default() }, 3, 2),
+        Fault::RowsFalling => return indexed(solver, Book { rules: in_group_0(&[0, 0, 1, 0, 0, 1]), ..Book::default() }, 3, 2),
+        Fault::RepeatedLiteralIndexedOnce => {
+            return indexed(solver, Book { rules: in_group_0(&[0, 0, 2]), ..Book::default() }, 3, 2)
+        }
         Fault::ClausesIndexed => return indexed(solver, Book { clauses: vec![0, 1], ..Book::default() }, 3, 0),
         Fault::LongerIndexSlicesTaken | Fault::IndexLengthsAs17 => return indexed(solver, Book::default(), 4, 0),
         Fault::IndexSizeBeforeMarks | Fault::StartsClearedByARefusal => {
             return indexed(solver, Book { marks: vec![2], ..Book::default() }, 2, 0)
         }
-        Fault::FullIndexRefused => return indexed(solver, Book { rules: [0, 0, 8_192].repeat(2), ..Book::default() }, 3, 16_384),
+        Fault::FullIndexRefused => {
+            return indexed(solver, Book { rules: in_group_0(&[0, 0, 8_192].repeat(2)), ..Book::default() }, 3, 16_384)
+        }
         Fault::SharedBodiesCountedOnce => {
-            return indexed(solver, Book { rules: vec![0, 0, 8_192, 0, 0, 8_192, 0, 0, 1], ..Book::default() }, 3, 16_385)
+            return indexed(solver, Book { rules: in_group_0(&[0, 0, 8_192, 0, 0, 8_192, 0, 0, 1]), ..Book::default() }, 3, 16_385)
         }
         Fault::RepeatedLiteralLoweredOnce => return followed(solver, "(atoms 2)\n(rule 0)\n(rule 1 0 0)\n", |_| {}),
         Fault::RepeatedLiteralCountedOnce | Fault::NotFalseCounted => return followed(solver, "(atoms 2)\n(rule 1 0 0)\n", |_| {}),
@@ -485,8 +634,56 @@ fn spoilt_by(fault: Fault, solver: &Solver) -> String {
             return followed(solver, "(atoms 1)\n(rule 0)\n", |lent| lent.lengths.counts = 2)
         }
         Fault::CountsOneRowShortTaken => return followed(solver, "(atoms 1)\n(rule 0)\n", |lent| lent.lengths.counts = 0),
+        other => return spoilt_in_groups(other, solver),
     };
     solver.report(text.as_bytes()).escape_ascii().to_string()
+}
+
+/// The same for the faults that are about groups.
+fn spoilt_in_groups(fault: Fault, solver: &Solver) -> String {
+    let text = match fault {
+        Fault::GroupsJoined => "(atoms 2)\n(rule 0 1)\n(also 1 1 0)\n(claim (1 1 0) (1 0 1))\n".into(),
+        Fault::MarksInEveryGroup => "(atoms 2)\n(defined 0)\n(also 1 1)\n(claim (0 1 0) (1 0 1))\n".into(),
+        Fault::EmptyGroupsNotCounted => "(atoms 1)\n(also 2 0)\n(claim (1 0 0 1))\n".into(),
+        Fault::LevelsByAtom => return read(solver, "(atoms 2)\n(also 1 0)\n(claim (1 1 2) (1 3 4))\n"),
+        Fault::LevelsOfOneGroup => "(atoms 1)\n(rule 0)\n(also 1 0)\n(claim (1 1 1))\n".into(),
+        Fault::DOfGroup0 => "(atoms 2)\n(rule 0)\n(rule 1)\n(also 1 0)\n(claim (1 1 2) (1 1 0))\n".into(),
+        Fault::GroupAfterGroup => "(atoms 1)\n(rule 0 0)\n(also 1 0)\n(claim (1 1 0))\n".into(),
+        Fault::HigherGroupsFirst | Fault::GroupsTogether => "(atoms 2)\n(rule 1)\n(also 1 0)\n(claim (1 0 0) (1 0 0))\n".into(),
+        Fault::RowCountedInItsGroup => "(atoms 1)\n(rule 0 0)\n(also 1 0)\n(claim (0 1 1))\n".into(),
+        Fault::Group8Taken => "(atoms 1)\n(also 8 0)\n(open)\n".into(),
+        Fault::OtherGroupsLeftOut => "(atoms 1)\n(also 1 0)\n(open)\n".into(),
+        Fault::GroupReportedForRow => "(atoms 1)\n(also 7 0)\n(open)\n".into(),
+        Fault::AlsoOfGroup0Taken => "(atoms 1)\n(also 0 0)\n(open)\n".into(),
+        Fault::FallingGroupsTaken => "(atoms 1)\n(also 2 0)\n(also 1 0)\n(open)\n".into(),
+        Fault::EqualGroupsRefused => "(atoms 1)\n(also 2 0)\n(also 2 0)\n(open)\n".into(),
+        Fault::RuleAfterAlsoTaken => "(atoms 1)\n(also 2 0)\n(rule 0)\n(open)\n".into(),
+        Fault::AlsoRowsCountedApart => format!("(atoms 1)\n{}(also 1 0)\n(open)\n", "(rule 0)\n".repeat(2_048)),
+        Fault::WrongLevelsAs3 | Fault::LevelsCountedFromTheClaim => "(atoms 1)\n(claim (0 0 0))\n".into(),
+        Fault::GroupAfterLengths => return checked(solver, Book { rules: vec![0, 0, 0, 8], ..Book::of_atoms(1) }, [1]),
+        Fault::GroupBeforeTerms => {
+            let (load_literals, minutes) = (vec![0], vec![1_441]);
+            return checked(solver, Book { rules: vec![0, 0, 0, 8], load_literals, minutes, ..Book::of_atoms(1) }, [1]);
+        }
+        Fault::OtherGroupAfterLengths => {
+            return format!("{:?}", solver.evaluate(&Book { rules: vec![0, 0, 0, 1], ..Book::of_atoms(1) }, &[0], 1, 1, 0))
+        }
+        Fault::RowsWrittenAsTheyStand => return written_in_groups(solver, &[(0, 1), (0, 0)]),
+        Fault::RowsOfAGroupTurnedRound => return written_in_groups(solver, &[(0, 1), (1, 1)]),
+        Fault::HigherGroupsNotIndexed => return indexed(solver, Book { rules: vec![0, 0, 1, 1], ..Book::default() }, 3, 1),
+        _ => panic!("{} is not about groups", fault.describe()),
+    };
+    solver.report(text.as_bytes()).escape_ascii().to_string()
+}
+
+fn read(solver: &Solver, text: &str) -> String {
+    format!("{:?}", solver.read(text.as_bytes(), &Lengths::FULL))
+}
+
+/// The text of rules without a body, given by their heads and groups, and of a claim of two atoms.
+fn written_in_groups(solver: &Solver, rules: &[(u16, u16)]) -> String {
+    let rules = rules.iter().flat_map(|&(head, group)| [head, 0, 0, group]).collect();
+    format!("{:?}", solver.write(&Book { rules, ..Book::of_atoms(2) }, &[0, 0], &[0, 1, 2, 3], 200))
 }
 
 /// The check of a value at level 1.
@@ -516,7 +713,7 @@ struct LentToFollow {
 /// What that maker makes of a book with no open atom true, lent what it should be and then changed.
 fn followed(solver: &Solver, lines: &str, change: fn(&mut LentToFollow)) -> String {
     let Read { book, values: open_values, .. } = SOLVER.read(format!("{lines}(open)\n").as_bytes(), &Lengths::FULL);
-    let (n, counts) = (book.n, book.rules.len() / 3);
+    let (n, counts) = (book.n, book.rules.len() / RULE_WIDTH);
     let lengths = FollowingLengths { values: n, levels: n, work: n, starts: 2 * n + 1, entries: book.literals.len(), counts };
     let mut lent = LentToFollow { book, open_values, lengths };
     change(&mut lent);

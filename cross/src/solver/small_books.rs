@@ -10,7 +10,7 @@ pub fn definition(random: &mut Random, n: usize, most_rules: usize, most_literal
     let mut rules = Vec::new();
     for _ in 0..random.below(most_rules + 1) {
         let count = random.below(most_literals + 1);
-        rules.extend([random.below(n), random.below(length - count + 1), count].map(|entry| entry as u16));
+        rules.extend([random.below(n), random.below(length - count + 1), count, 0].map(|entry| entry as u16));
     }
     let marks = (0..n).map(|_| u8::from(random.one_in(4))).collect();
     Book { rules, literals, marks, ..Book::of_atoms(n) }

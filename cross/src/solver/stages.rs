@@ -1,6 +1,6 @@
 //! Stages, as the paper defines them.
 
-use super::decoded::{Decoded, Literal};
+use super::decoded::{Definition, Literal};
 use super::{Fault, Solver};
 
 /// What a stage holds of each atom.
@@ -36,7 +36,7 @@ impl Stages {
 }
 
 impl Solver {
-    pub(super) fn stages(&self, book: &Decoded, open_values: &[u8]) -> Stages {
+    pub(super) fn stages(&self, book: &Definition, open_values: &[u8]) -> Stages {
         let stage_0 = (0..book.atoms()).map(|atom| if book.defined[atom] { None } else { Some(open_values[atom] == 1) }).collect();
         let mut stages: Vec<Stage> = vec![stage_0];
         loop {
@@ -51,7 +51,7 @@ impl Solver {
         }
     }
 
-    fn next_stage(&self, book: &Decoded, present: &Stage, unfounded: &[bool]) -> Stage {
+    fn next_stage(&self, book: &Definition, present: &Stage, unfounded: &[bool]) -> Stage {
         let mut next = present.clone();
         for rule in &book.rules {
             let looked_at = if self.has(Fault::HeadMadeTrueWithItsBody) { &next } else { present };
@@ -70,7 +70,7 @@ impl Solver {
     ///
     /// The set only shrinks and the stage stands still, so a literal that no longer speaks against its rule never will again:
     /// the search in a body goes on where it stopped.
-    fn largest_unfounded_set(&self, book: &Decoded, present: &Stage) -> Vec<bool> {
+    fn largest_unfounded_set(&self, book: &Definition, present: &Stage) -> Vec<bool> {
         let mut set = book.defined.clone();
         let mut passed = vec![0; book.rules.len()];
         loop {
@@ -116,7 +116,7 @@ mod tests {
     const SOLVER: Solver = Solver { fault: None };
 
     /// The definition itself: whether each rule with its head in the set has a literal against it.
-    fn unfounded(book: &Decoded, set: &[bool], stage: &Stage) -> bool {
+    fn unfounded(book: &Definition, set: &[bool], stage: &Stage) -> bool {
         book.rules.iter().filter(|rule| set[rule.head]).all(|rule| {
             let against = |literal: &Literal| held(*literal, stage) == Some(false) || (!literal.negated() && set[literal.atom()]);
             rule.body.iter().any(against)
@@ -124,7 +124,7 @@ mod tests {
     }
 
     /// The union of all unfounded sets, found by trying every set of defined atoms.
-    fn largest_by_trying(book: &Decoded, stage: &Stage) -> Vec<bool> {
+    fn largest_by_trying(book: &Definition, stage: &Stage) -> Vec<bool> {
         let n = book.atoms();
         let mut union = vec![false; n];
         for choice in 0..1_usize << n {
@@ -144,7 +144,7 @@ mod tests {
         let mut beyond_one = 0;
         for _ in 0..2_000 {
             let n = 1 + random.below(6);
-            let book = Decoded::new(&definition(&mut random, n, 12, 3));
+            let book = Definition::first(&definition(&mut random, n, 12, 3));
             let stage: Stage = (0..n).map(|_| [None, Some(false), Some(true)][random.below(3)]).collect();
             let largest = SOLVER.largest_unfounded_set(&book, &stage);
             assert_eq!(largest, largest_by_trying(&book, &stage), "{book:?}");
@@ -159,10 +159,10 @@ mod tests {
         let n = 1_024_u16;
         let mut book = crate::book::Book::of_atoms(n.into());
         for atom in 1..n {
-            book.rules.extend([atom, atom - 1, 1]);
+            book.rules.extend([atom, atom - 1, 1, 0]);
             book.literals.push(2 * (atom - 1) + 1);
         }
-        let stages = SOLVER.stages(&Decoded::new(&book), &vec![0; n.into()]);
+        let stages = SOLVER.stages(&Definition::first(&book), &vec![0; n.into()]);
         assert_eq!(stages.closure_number(), 1_023);
         for atom in 0..usize::from(n) {
             assert_eq!(stages.model()[atom], Some(atom % 2 == 1));

@@ -1,14 +1,69 @@
-//! Refusals 11 to 17 and 31: what a host can get wrong in the tables and slices that it lends.
+//! Refusals 11 to 17, 31, 34 and 35: what a host can get wrong in the tables and slices that it lends.
 //!
-//! Each refusal is one function that answers its lowest position. 11 to 17 are asked in the order of their numbers, 31 after them.
+//! Each refusal is one function that answers its lowest position. 11 to 16 are asked in the order of their numbers, then 34, 35, 17 and
+//! 31.
 
+use super::groups::of_rows;
 use super::limits;
 use super::{Fault, Solver};
-use crate::book::{Book, Verdict};
+use crate::book::{Book, Verdict, RULE_WIDTH};
+
+/// What a call is lent beside the tables.
+pub(super) struct Lent<'a> {
+    /// The lengths of slices that have one entry for each atom.
+    pub of_atoms: &'a [usize],
+    /// The length of the levels of a claim, which are one for each atom in each group.
+    pub of_levels: Option<usize>,
+    /// Whether the call makes a model, which it does of books of group 0 alone.
+    pub makes: bool,
+}
 
 impl Solver {
-    /// The refusal of the tables and of the other lent slices, whose lengths are given; nothing if they are sound.
-    pub(super) fn table_refusal(&self, book: &Book, other_lengths: &[usize]) -> Option<Verdict> {
+    /// The refusal of the tables and of the other lent slices; nothing if they are sound.
+    pub(super) fn lent_refusal(&self, book: &Book, lent: Lent) -> Option<Verdict> {
+        let groups = || self.bad_group(book);
+        let makes = || if lent.makes { self.other_group(book) } else { None };
+        let lengths = || self.bad_length(book, &lent);
+        let tables = self.table_refusal(book);
+        match self.fault {
+            Some(Fault::GroupAfterLengths) => tables.or_else(lengths).or_else(groups).or_else(makes),
+            Some(Fault::OtherGroupAfterLengths) => tables.or_else(groups).or_else(lengths).or_else(makes),
+            Some(Fault::GroupBeforeTerms) => self.tables_but_terms(book).or_else(groups).or(tables).or_else(makes).or_else(lengths),
+            _ => tables.or_else(groups).or_else(makes).or_else(lengths),
+        }
+    }
+
+    /// 11 to 15, for a fault that looks for 34 before 16.
+    fn tables_but_terms(&self, book: &Book) -> Option<Verdict> {
+        self.table_refusal(book).filter(|verdict| verdict.number < 16)
+    }
+
+    /// 34.
+    fn bad_group(&self, book: &Book) -> Option<Verdict> {
+        let highest = limits::HIGHEST_GROUP + u16::from(self.has(Fault::Group8Taken));
+        self.row_of_group(34, book, |group| group > highest)
+    }
+
+    /// 35.
+    fn other_group(&self, book: &Book) -> Option<Verdict> {
+        self.row_of_group(35, book, |group| group > 0).filter(|_| !self.has(Fault::OtherGroupsLeftOut))
+    }
+
+    /// The refusal at the lowest row with such a group.
+    fn row_of_group(&self, number: u32, book: &Book, such: impl Fn(u16) -> bool) -> Option<Verdict> {
+        let (row, group) = of_rows(book).enumerate().find(|(_, group)| such(*group))?;
+        Some(Verdict::refused(number, if self.has(Fault::GroupReportedForRow) { group.into() } else { row }))
+    }
+
+    /// 17.
+    fn bad_length(&self, book: &Book, lent: &Lent) -> Option<Verdict> {
+        let levels = if self.has(Fault::LevelsOfOneGroup) { book.n } else { self.levels(book) };
+        let wrong = lent.of_atoms.iter().any(|length| *length != book.n) || lent.of_levels.is_some_and(|length| length != levels);
+        wrong.then(|| Verdict::refused(17, 0))
+    }
+
+    /// 11 to 16.
+    fn table_refusal(&self, book: &Book) -> Option<Verdict> {
         if over_limit(book) || broken_rows(book) {
             return Some(Verdict::refused(11, 0));
         }
@@ -19,7 +74,6 @@ impl Solver {
             .or_else(|| self.bad_load_row(book).map(refuse(14)))
             .or_else(|| bad_literal(book).map(refuse(15)))
             .or_else(|| bad_term(book).map(refuse(16)))
-            .or_else(|| other_lengths.iter().any(|length| *length != book.n).then(|| Verdict::refused(17, 0)))
     }
 
     /// 31 if a mark is bad, else 21 at the bad value, if there is one.
@@ -37,7 +91,7 @@ impl Solver {
     }
 
     fn bad_rule_row(&self, book: &Book) -> Option<usize> {
-        book.rules.chunks(3).position(|row| {
+        book.rules.chunks(RULE_WIDTH).position(|row| {
             let past_end = self.past_end(row[1].into(), row[2].into(), book.literals.len());
             past_end || usize::from(row[0]) >= book.n
         })
@@ -65,7 +119,7 @@ impl Solver {
 
 fn over_limit(book: &Book) -> bool {
     book.n > limits::ATOMS
-        || book.rules.len() > 3 * limits::RULE_ROWS
+        || book.rules.len() > RULE_WIDTH * limits::RULE_ROWS
         || book.literals.len() > limits::LITERALS
         || book.clauses.len() > 2 * limits::CLAUSE_ROWS
         || book.loads.len() > 4 * limits::LOAD_ROWS
@@ -74,7 +128,8 @@ fn over_limit(book: &Book) -> bool {
 }
 
 fn broken_rows(book: &Book) -> bool {
-    let whole = book.rules.len().is_multiple_of(3) && book.clauses.len().is_multiple_of(2) && book.loads.len().is_multiple_of(4);
+    let whole =
+        book.rules.len().is_multiple_of(RULE_WIDTH) && book.clauses.len().is_multiple_of(2) && book.loads.len().is_multiple_of(4);
     !whole || book.load_literals.len() != book.minutes.len()
 }
 

@@ -1,12 +1,15 @@
 //! The writer: the text of tables and a claim, or the refusal.
 
+use super::tables::Lent;
 use super::{limits, Fault, Solver};
-use crate::book::{Book, BookText, Verdict};
+use crate::book::{Book, BookText, Verdict, RULE_WIDTH};
 
 impl Solver {
     /// `room` is the length of the buffer that the text is to stand in.
     pub fn write(&self, book: &Book, values: &[u8], levels: &[u16], room: usize) -> BookText {
-        if let Some(verdict) = self.table_refusal(book, &[values.len(), levels.len()]) {
+        if let Some(verdict) =
+            self.lent_refusal(book, Lent { of_atoms: &[values.len()], of_levels: Some(levels.len()), makes: false })
+        {
             return BookText::refused(verdict);
         }
         let bad_value = values.iter().position(|value| *value > 1).filter(|_| self.has(Fault::WrittenValuesJudged));
@@ -27,14 +30,14 @@ impl Solver {
         if self.literals_by_row(book) > limits::LITERALS || terms_by_row(book) > limits::TERMS {
             return None;
         }
-        let text = self.book_lines(book) + &claim_line(values, levels);
+        let text = self.book_lines(book) + &self.claim_line(values, levels);
         let too_long = text.len() > limits::TEXT_BYTES && !self.has(Fault::LongTextWritten);
         let too_short = if self.has(Fault::ExactBufferRefused) { room <= text.len() } else { room < text.len() };
         (!too_long && !too_short).then(|| text.into_bytes())
     }
 
     pub(super) fn literals_by_row(&self, book: &Book) -> usize {
-        let bodies = book.rules.chunks(3).map(|row| (row[1], row[2]));
+        let bodies = book.rules.chunks(RULE_WIDTH).map(|row| (row[1], row[2]));
         let parts = bodies.chain(book.clauses.chunks(2).map(|row| (row[0], row[1])));
         if self.has(Fault::SharedLiteralsCountedOnce) {
             let mut used = vec![false; book.literals.len()];
@@ -62,8 +65,12 @@ impl Solver {
         if !declared.is_empty() {
             text += &line("defined", declared);
         }
-        for row in book.rules.chunks(3) {
-            text += &line("rule", [vec![row[0].to_string()], literals(row[1], row[2])].concat());
+        for row in self.rows_in_order(book) {
+            let head = vec![row[0].to_string()];
+            text += &match row[3] {
+                0 => line("rule", [head, literals(row[1], row[2])].concat()),
+                group => line("also", [vec![group.to_string()], head, literals(row[1], row[2])].concat()),
+            };
         }
         for row in book.clauses.chunks(2) {
             text += &line("clause", literals(row[0], row[1]));
@@ -74,8 +81,35 @@ impl Solver {
         text
     }
 
+    /// By rising group, and those of a group as they stand.
+    fn rows_in_order<'a>(&self, book: &'a Book) -> Vec<&'a [u16]> {
+        let rows = || book.rules.chunks(RULE_WIDTH);
+        if self.has(Fault::RowsWrittenAsTheyStand) {
+            return rows().collect();
+        }
+        let groups = 0..=limits::HIGHEST_GROUP + 1;
+        let of_group = |group: u16| {
+            let mut rows: Vec<&[u16]> = rows().filter(|row| row[3] == group).collect();
+            if self.has(Fault::RowsOfAGroupTurnedRound) && group > 0 {
+                rows.reverse();
+            }
+            rows
+        };
+        groups.flat_map(of_group).collect()
+    }
+
+    /// A pair for each atom, with its level in each group.
+    fn claim_line(&self, values: &[u8], levels: &[u16]) -> String {
+        let atoms = values.len();
+        let pair = |atom: usize| {
+            let of_groups: Vec<String> = levels.iter().skip(atom).step_by(atoms).map(u16::to_string).collect();
+            format!("({} {})", values[atom], of_groups.join(" "))
+        };
+        line("claim", (0..atoms).map(pair))
+    }
+
     fn declared(&self, book: &Book) -> Vec<String> {
-        let heads_a_rule = |atom: &usize| book.rules.chunks(3).any(|row| usize::from(row[0]) == *atom);
+        let heads_a_rule = |atom: &usize| book.rules.chunks(RULE_WIDTH).any(|row| usize::from(row[0]) == *atom);
         let left_out = |atom: &usize| self.has(Fault::DeclaredHeadsLeftOut) && heads_a_rule(atom);
         let declared = (0..book.n).filter(|atom| book.marks.get(*atom) == Some(&1) && !left_out(atom));
         declared.map(|atom| atom.to_string()).collect()
@@ -102,10 +136,6 @@ fn terms_by_row(book: &Book) -> usize {
     book.loads.chunks(4).map(|row| row[3] as usize).sum()
 }
 
-fn claim_line(values: &[u8], levels: &[u16]) -> String {
-    line("claim", values.iter().zip(levels).map(|(value, level)| format!("({value} {level})")))
-}
-
 fn literal(stored: u16) -> String {
     let atom = stored / 2;
     if stored.is_multiple_of(2) {
@@ -128,12 +158,13 @@ fn line(word: &str, parts: impl IntoIterator<Item = String>) -> String {
 #[cfg(test)]
 mod tests {
     use super::*;
+    use crate::book::in_group_0;
 
     const SOLVER: Solver = Solver { fault: None };
 
     fn book() -> Book {
         Book {
-            rules: vec![1, 1, 2, 0, 3, 0],
+            rules: in_group_0(&[1, 1, 2, 0, 3, 0]),
             literals: vec![4, 1, 2],
             clauses: vec![0, 2],
             loads: vec![-5, 0, 1, 1],
@@ -178,7 +209,7 @@ mod tests {
     fn literals_are_counted_by_row() {
         let half = Book { literals: vec![0; 8_192], ..Book::of_atoms(1) };
         let number = |book: &Book| SOLVER.write(book, &[0], &[0], usize::MAX).verdict.number;
-        let whole = Book { rules: vec![0, 0, 8_192], clauses: vec![0, 8_192], ..half };
+        let whole = Book { rules: in_group_0(&[0, 0, 8_192]), clauses: vec![0, 8_192], ..half };
         assert_eq!(number(&whole), 0);
         assert_eq!(number(&Book { clauses: vec![0, 8_192, 0, 1], ..whole }), 32);
     }

@@ -4,7 +4,7 @@ use borrow.Author.Rules.{rules}
 use Rattle.judging.specs.LentTables.{space_with}
 use Rattle.forms.specs.Contents.{lent_tables}
 use Rattle.booktext.specs.Answers.{space_of}
-use Rattle.booktext.proofs.ReadLaws.{read_refused, read_filled}
+use Rattle.booktext.proofs.ReadLaws.{judged_group, read_refused, read_filled}
 use Rattle.booktext.proofs.read.Statement.{statement}
 use Rattle.booktext.proofs.read.Tie as tie
 
@@ -35,7 +35,7 @@ walk-requires : tie.Need-walk-requires
 walk-requires c κs = tt
 
 answer-of-requires : tie.Need-answer-of-requires
-answer-of-requires c κs = tt
+answer-of-requires c κs = judged_group _ _ c.before.before.before.before.before.before.before.before.before.before.before.before.before.before.before.before.walk.ensures.answered
 
 same_length : tie.Need-same-length
 same_length c = (walked c).walk.auto.1.1.0

@@ -1,9 +1,9 @@
--- `capi::put_counts` meets its contract: seven stores into seven places leave the seven counts, which 32 bits hold.
+-- `capi::put_counts` meets its contract: eight stores into eight places leave the eight counts, which 32 bits hold.
 -- Assumes nothing.
 use native.Mathlib.Omega.{arith}
 use lib.ListN.{length-set}
 use Rattle.capi.specs.Packing.{counts_of}
-use Rattle.capi.proofs.PackLaws.{state_small, seven_stored}
+use Rattle.capi.proofs.PackLaws.{state_small, eight_stored}
 use Rattle.capi.proofs.put_counts.Statement.{statement}
 use Rattle.capi.proofs.put_counts.Tie as tie
 
@@ -52,14 +52,20 @@ cast-answer-7 c = omega (arith, c.state-number.ensures, state_small c.before.bef
 slice-write-answer-7 : tie.Need-slice-write-answer-7
 slice-write-answer-7 c = simp length-set (omega (arith, c.before.before.before.before.before.before.before.before.requires.0))
 
+cast-answer-8 : tie.Need-overflow-cast-answer-8
+cast-answer-8 c = omega (arith, c.before.before.before.before.before.before.before.before.before.requires.1.groups)
+
+slice-write-answer-8 : tie.Need-slice-write-answer-8
+slice-write-answer-8 c = simp length-set (omega (arith, c.before.before.before.before.before.before.before.before.before.requires.0))
+
 same_length : tie.Need-same-length
 same_length c = simp length-set
 
 returns : tie.Need-returns
 unfolding counts_of
 returns c =
-    let start = c.before.before.before.before.before.before.before.before in
-    rw c.state-number.ensures (seven_stored start.args.answer.now start.requires.0 _ _ _ _ _ _ _)
+    let start = c.before.before.before.before.before.before.before.before.before in
+    rw c.before.state-number.ensures (eight_stored start.args.answer.now start.requires.0 _ _ _ _ _ _ _ _)
 
 pub put-counts-spec : {M : Type 1} → statement M
 put-counts-spec =
@@ -80,5 +86,7 @@ put-counts-spec =
     state-number-requires
     cast-answer-7
     slice-write-answer-7
+    cast-answer-8
+    slice-write-answer-8
     same_length
     returns)

@@ -29,8 +29,8 @@ read-pairs-requires : tie.Need-read-pairs-requires
 read-pairs-requires c κs =
     let groups = c.before.before in
     let start = groups.before.before.before.before in
-    let some = groups_some start.args.reached in
-    (start.requires.0, rw groups.groups-reached.ensures (some.0, some.1, start.requires.1))
+    let some = groups_some start.args.reached start.requires.1.1 in
+    (start.requires.0, rw groups.groups-reached.ensures (some.0, some.1, start.requires.1.0))
 
 -- The pairs are listed with the groups that the state has.
 abbrev Listed-by : (c : tie.After-read-pairs) → ℕ → Type 0

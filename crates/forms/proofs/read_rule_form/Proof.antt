@@ -14,11 +14,11 @@ use Rattle.format.specs.Parse.{read_literal}
 use Rattle.numerals.specs.internal.Offsets.{number_at}
 use Rattle.format.proofs.Pieces.{literal_inverse}
 use Rattle.judging.proofs.Counts.{counts_within_lem}
-use Rattle.format.specs.Views.{view_of, of_kind, same_kind, kind_number}
+use Rattle.format.specs.Views.{view_of, rule_kind, same_kind, kind_number}
 use Rattle.forms.specs.Entries.{rule_row, literals_in}
 use Rattle.forms.proofs.Gathered.{count_small}
 use Rattle.forms.proofs.FormLaws.{number_after}
-use Rattle.forms.proofs.RuleForm.{rule_unspaced, rule_headless, rule_listless, rule_formed}
+use Rattle.forms.proofs.RuleForm.{rule_placed, rule_unspaced, rule_headless, rule_listless, rule_formed}
 use Rattle.forms.proofs.read_rule_form.Statement.{statement}
 use Rattle.forms.proofs.read_rule_form.Tie as tie
 
@@ -26,7 +26,7 @@ byte-at-requires : tie.Need-byte-at-requires
 byte-at-requires c κs = search rules
 
 returns : tie.Need-returns
-returns c = rule_unspaced _ _ (sym c.before.byte_at.ensures ∙ not-true _ c.if1.true)
+returns c = rule_placed _ (rule_unspaced _ _ (sym c.before.byte_at.ensures ∙ not-true _ c.if1.true))
 
 spaced : (c : tie.Else1) → let a = c.before.before.before.before.before.args in word_at a.text.now a.at (32 ∷ []) ≡ true
 spaced c = sym c.before.byte_at.ensures ∙ not-false _ c.if1.false
@@ -44,7 +44,8 @@ enum_told : tie.Need-enum-told
 enum_told c = search rules
 
 returns-2 : tie.Need-returns-2
-returns-2 c = rule_headless _ _ (spaced c.before.before.before) (sym c.before.before.read_number.ensures ∙ c.enum_told.given.1)
+returns-2 c =
+    rule_placed _ (rule_headless _ _ (spaced c.before.before.before) (sym c.before.before.read_number.ensures ∙ c.enum_told.given.1))
 
 headed :
     (c : tie.After-head) →
@@ -73,7 +74,7 @@ returns-3 : tie.Need-returns-3
 returns-3 c =
     let call = c.before.before.before.before in
     let head = call.before.before.before in
-    rule_listless _ _ (spaced head.before.before.before) (headed head) call.read-literals.ensures c.enum-told2.given.1
+    rule_placed _ (rule_listless _ _ (spaced head.before.before.before) (headed head) call.read-literals.ensures c.enum-told2.given.1)
 
 store-rule-requires : tie.Need-store-rule-requires
 store-rule-requires c κs =
@@ -92,13 +93,13 @@ same-length-3 : tie.Need-same-length-3
 same-length-3 c = search rules
 
 returns-4 : tie.Need-returns-4
-unfolding rule_row literals_in view_of of_kind same_kind kind_number
+unfolding rule_row literals_in view_of rule_kind same_kind kind_number
 returns-4 c =
     let parts = c.before.before.before.before.before in
     let call = parts.before.before.before.before in
     let head = call.before.before.before in
-    rule_formed _ _ (spaced head.before.before.before) (headed head) call.read-literals.ensures parts.parts.given.1
-    (λ h ls e l n w. (rw (← e, ← n) (c.before.before.store_rule.ensures l), w))
+    rule_placed _ (rule_formed _ _ (spaced head.before.before.before) (headed head) call.read-literals.ensures parts.parts.given.1
+    (λ h ls e l n w. (rw (← e, ← n) (c.before.before.store_rule.ensures l (omega arith)), w)))
 
 pub read-rule-form-spec : {M : Type 1} → statement M
 read-rule-form-spec =

@@ -1,13 +1,13 @@
 -- What is looked at before the setting, what the rules are then followed with, and what that leaves.
-use Rattle.std.specs.Prelude.{ℕ, ◌*◌, ◌≤◌, ◌≡◌, List, [], ◌∷◌, ◌++◌, length}
+use Rattle.std.specs.Prelude.{ℕ, ◌*◌, ◌≤◌, ◌<◌, ◌≡◌, List, [], ◌∷◌, ◌++◌, length}
 use Rattle.wellfounded.specs.Definitions.{Definition}
 use Rattle.tables.specs.declared.Fault.{Fault}
 use Rattle.tables.specs.declared.Verdict.{Verdict}
 use Rattle.tables.specs.declared.Verdict.TheVariants.{Accepted, Refused}
 use Rattle.tables.specs.Limits.{max_atoms, max_rule_rows}
 use Rattle.tables.specs.Faults.{Test, first_fault}
-use Rattle.tables.specs.Rows.{rule_count, definition_of}
-use Rattle.tables.specs.Sound.{Tables, lent_tests}
+use Rattle.tables.specs.Rows.{rule_count, rule_group, definition_of}
+use Rattle.tables.specs.Sound.{Tables, lent_one_group_tests}
 use Rattle.tables.specs.internal.Scans.{RulesScannable}
 use Rattle.sorting.specs.Sorted.{starts_of, rows_by_key}
 use Rattle.evaluator.specs.Evaluate.{setting_test}
@@ -16,20 +16,21 @@ use Rattle.indexing.specs.internal.Building.{Buildable}
 use Rattle.advancing.specs.internal.Advancing.{AdvanceDone}
 use Rattle.indexed.specs.EvaluateIndexed.{lent_lengths}
 
--- The faults before that of the setting, by the lengths of the slices: 11 to 17, 31 and 33.
+-- The faults before that of the setting, by the lengths of the slices: 11 to 16, 34, 35, 17, 31 and 33.
 unfoldable pub early_tests : Tables → ℕ → ℕ → ℕ → ℕ → ℕ → ℕ → ℕ → List Test
 early_tests t setting values levels work starts entries counts =
-    lent_tests t (lent_lengths t.atoms (rule_count t.rules) setting values levels work counts) ++ (index_test t starts entries ∷ [])
+    lent_one_group_tests t (lent_lengths t.atoms (rule_count t.rules) setting values levels work counts) ++ (index_test t starts entries ∷ [])
 
 -- The definition of so many rules and marks over as many atoms as the setting has values.
 unfoldable pub ruled : List ℕ → List ℕ → List ℕ → List ℕ → Definition
 ruled rules literals marks setting = definition_of (length setting) rules literals marks 0
 
--- Rules that can be followed: they have no fault, and every slice has its length.
+-- Rules that can be followed: they have no fault and are of group 0, and every slice has its length.
 pub record Followable (rules literals marks setting values levels work starts entries counts : List ℕ) : Type 0 where
   pub few : length setting ≤ max_atoms
   pub few_rows : rule_count rules ≤ max_rule_rows
   pub rows : RulesScannable rules literals (length setting)
+  pub zero : (row : ℕ) → row < rule_count rules → rule_group rules row ≡ 0
   pub marks_long : length marks ≡ length setting
   pub values_long : length values ≡ length setting
   pub levels_long : length levels ≡ length setting

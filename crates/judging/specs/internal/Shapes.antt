@@ -1,10 +1,11 @@
 -- The shape of a form: what judging needs of it. A shape is judged as its form is.
-use Rattle.std.specs.Prelude.{ℕ, ◌≡◌, Bool, true, cond, ◌&&◌, ◌||◌, List, map, eqb, length}
+use Rattle.std.specs.Prelude.{ℕ, ◌≤◌, ◌≡◌, Bool, true, cond, ◌&&◌, ◌||◌, List, map, eqb, leb, length}
+use Rattle.tables.specs.Limits.{max_atoms, max_group}
 use Rattle.tables.specs.declared.Fault.TheVariants.{OutsideLimits, OutOfOrder, NoSpace}
 use Rattle.format.specs.declared.kinds.Kind.{Kind}
-use Rattle.format.specs.declared.kinds.Kind.TheVariants.{Rule, Clause, Load, Open, Claim, Defined}
+use Rattle.format.specs.declared.kinds.Kind.TheVariants.{Clause, Load, Open, Claim, Defined, Also}
 use Rattle.format.specs.Forms.{Form}
-use Rattle.format.specs.Views.{View, view_of, same_kind}
+use Rattle.format.specs.Views.{View, view_of, same_kind, rule_kind}
 use Rattle.numerals.specs.internal.Offsets.{capped}
 use Rattle.judging.specs.declared.reached.Reached.{Reached}
 use Rattle.judging.specs.declared.reached.Space.{Space}
@@ -22,37 +23,50 @@ capped_rise atoms = rises_from 0 (map capped atoms)
 -- How many parts a form lists, and which list they are, by its kind.
 unfoldable pub parts_in : View → ℕ
 parts_in v =
-    cond (same_kind v.kind Rule || same_kind v.kind Clause) (length v.literals)
+    cond (rule_kind v.kind || same_kind v.kind Clause) (length v.literals)
     (cond (same_kind v.kind Load) (length v.terms)
     (cond (same_kind v.kind Open || same_kind v.kind Defined) (length v.atoms) (length v.pairs)))
+
+-- The number that a form names besides its parts: the number of atoms, or the group of an also form.
+unfoldable pub number_in : View → ℕ
+number_in v = cond (same_kind v.kind Also) v.group v.size
 
 unfoldable pub shape_of : Reached → Form → Shape
 shape_of s f =
     let v = view_of f in
-    record { kind = v.kind; size = capped v.size; parts = parts_in v; within = numbers_within s f; rising = capped_rise v.atoms }
+    record {
+      kind = v.kind;
+      number = capped (number_in v);
+      parts = parts_in v;
+      within = numbers_within s f;
+      rising = capped_rise v.atoms;
+    }
 
--- The order of a shape's parts, and a shape judged as its form is.
-unfoldable pub order_of : Reached → Kind → ℕ → Bool → Bool
-order_of s kind parts rising = rising && cond (same_kind kind Claim) (eqb parts s.size) true
+-- The order of a shape's group and parts, and a shape judged as its form is.
+unfoldable pub order_of : Reached → Kind → ℕ → ℕ → Bool → Bool
+order_of s kind number parts rising =
+    cond (same_kind kind Also) (leb s.group number) true && (rising && cond (same_kind kind Claim) (eqb parts s.size) true)
 
 -- The parts of rules and clauses are literals, those of load lines are terms.
 unfoldable pub added : Reached → Kind → ℕ → ℕ → Reached
-added s kind size parts =
-    advanced s kind size (cond (same_kind kind Rule || same_kind kind Clause) parts 0) (cond (same_kind kind Load) parts 0)
+added s kind number parts =
+    advanced s kind number number (cond (rule_kind kind || same_kind kind Clause) parts 0) (cond (same_kind kind Load) parts 0)
 
 unfoldable pub reached_by : Reached → Shape → Reached
-reached_by s shape = added s shape.kind shape.size shape.parts
+reached_by s shape = added s shape.kind shape.number shape.parts
 
 unfoldable pub judge_shape : Space → Reached → Shape → Step
 judge_shape space s shape =
     cond (shape.within && counts_within (reached_by s shape))
-    (cond (may_follow shape.kind s.phase && order_of s shape.kind shape.parts shape.rising)
+    (cond (may_follow shape.kind s.phase && order_of s shape.kind shape.number shape.parts shape.rising)
     (cond (fits space (reached_by s shape)) (on (reached_by s shape)) (stop NoSpace))
     (stop OutOfOrder))
     (stop OutsideLimits)
 
--- All that was counted so far is within the limits of a book and has space in the lent tables.
+-- All that was told and counted so far is within the limits of a book, and has space in the lent tables.
 pub record CountsFit (space : Space) (s : Reached) : Type 0 where
+  pub atoms : s.size ≤ max_atoms
+  pub groups : s.group ≤ max_group
   pub limits : counts_within s ≡ true
   pub fitting : fits space s ≡ true
 

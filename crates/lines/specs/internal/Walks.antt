@@ -1,6 +1,6 @@
 -- What the functions promise that read a line, judge it, and walk over the lines of a text.
 use Rattle.std.specs.Prelude.{ℕ, ◌+◌, ◌-◌, ◌≤◌, ◌≡◌, Bool, true, false, cond, List, [], ◌∷◌, leb, length}
-use Rattle.tables.specs.Limits.{max_atoms}
+use Rattle.tables.specs.Limits.{max_atoms, max_group}
 use Rattle.tables.specs.declared.Fault.TheVariants.{Malformed, OutOfOrder}
 use Rattle.format.specs.Forms.{Form, line_end}
 use Rattle.format.specs.Parse.{Reading, got, refused, Holds}
@@ -22,11 +22,12 @@ use Rattle.forms.specs.Contents.{Contents}
 use Rattle.forms.specs.Entries.{entries_of}
 use Rattle.forms.specs.internal.Stores.{store, store_forms}
 
--- A line may be read at an offset: the counts and the number of atoms reached so far are within their limits.
+-- A line may be read at an offset: the counts, the number of atoms and the group reached so far are within their limits.
 pub record Ready (text : List ℕ) (at : ℕ) (s : Reached) : Type 0 where
   pub inside : Inside text at
   pub counts : counts_within s ≡ true
   pub atoms : s.size ≤ max_atoms
+  pub groups : s.group ≤ max_group
 
 -- A line may be judged: what was counted so far is within its limits and has space, and a form has no more parts than a text may have bytes.
 pub record Judgeable (space : Space) (s : Reached) (line : Line) : Type 0 where

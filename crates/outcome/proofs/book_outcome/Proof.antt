@@ -1,5 +1,7 @@
 -- `outcome::book_outcome` meets its contract: a claim is checked and an open form evaluated, from the used parts of the tables.
 -- Assumes nothing.
+use native.Mathlib.Omega.{arith}
+use native.Mathlib.Nat.{mul-le-mul}
 use borrow.Author.Rules.{rules}
 use Rattle.judging.specs.LentTables.{Rules, Literals, Clauses, Loads, LoadLiterals, Minutes, Marks, Values, Levels}
 use Rattle.forms.specs.Contents.{Contents, lent_tables}
@@ -97,6 +99,9 @@ part-used-given-end : tie.Need-slice-bounds-used-given-end
 unfolding lent_tables used_in
 part-used-given-end c = search (rules, c.before.before.before.before.before.before.before.before.before.before.before.before.before.before.before.before.requires.0.each Values)
 
+mul-level-entries : tie.Need-overflow-mul-level-entries
+mul-level-entries c = let fit = c.before.before.before.before.before.before.before.before.before.before.before.before.before.before.before.before.before.requires.0 in omega (arith, mul-le-mul fit.few fit.few_groups)
+
 sub-used-levels : tie.Need-overflow-sub-used-levels
 sub-used-levels c = search rules
 
@@ -181,6 +186,7 @@ book-outcome-spec =
     sub-used-given
     part-used-given-start
     part-used-given-end
+    mul-level-entries
     sub-used-levels
     part-used-levels-start
     part-used-levels-end

@@ -5,6 +5,7 @@ use borrow.Author.Rules.{rules}
 use Rattle.forms.specs.Contents.{lent_tables}
 use Rattle.judging.specs.LentTables.{space_with, full_size}
 use Rattle.booktext.specs.Answers.{space_of}
+use Rattle.booktext.proofs.ReadLaws.{judged_group}
 use Rattle.outcome.specs.Outcomes.{full_space}
 use Rattle.outcome.proofs.OutcomeLaws.{text_read}
 use Rattle.outcome.proofs.outcome_of.Statement.{statement}
@@ -54,7 +55,7 @@ walk-requires : tie.Need-walk-requires
 walk-requires c κs = tt
 
 answer-of-requires : tie.Need-answer-of-requires
-answer-of-requires c κs = tt
+answer-of-requires c κs = judged_group _ _ c.before.before.before.before.before.before.before.before.before.walk.ensures.answered
 
 slice-aggregate-book-outcome : tie.Need-slice-aggregate-book-outcome
 slice-aggregate-book-outcome c = search rules

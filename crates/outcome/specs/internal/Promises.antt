@@ -1,7 +1,7 @@
 -- What the functions promise that give an outcome, and what they ask.
 use Rattle.std.specs.Prelude.{ℕ, ◌*◌, ◌≤◌, ◌≡◌, List, length}
 use Rattle.tables.specs.declared.Verdict.{Verdict}
-use Rattle.tables.specs.Limits.{max_atoms, max_literals, max_rule_rows}
+use Rattle.tables.specs.Limits.{max_atoms, max_groups, max_literals, max_rule_rows}
 use Rattle.tables.specs.Rows.{rule_width, literals_by_rule}
 use Rattle.tables.specs.Sound.{Tables}
 use Rattle.evaluator.specs.Evaluate.{evaluate_of, Answers}
@@ -15,6 +15,7 @@ use Rattle.outcome.specs.Outcomes.{TextOutcome}
 -- A reader's answer fits the tables that it speaks of, and the arrays of the maker.
 pub record FitsBook (book : Book) (held : Contents) : Type 0 where
   pub few : book.atoms ≤ max_atoms
+  pub few_groups : book.groups ≤ max_groups
   pub few_rules : book.rules ≤ max_rule_rows * rule_width
   pub few_literals : literals_by_rule (used_parts book held Rules) ≤ max_literals
   pub each : (table : Table) → used_in book table ≤ length (held table)

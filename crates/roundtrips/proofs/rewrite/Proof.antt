@@ -3,7 +3,7 @@
 use mathlib.Core.Path.{refl}
 use borrow.Author.Rules.{rules}
 use Rattle.roundtrips.proofs.Written.{written_within}
-use Rattle.roundtrips.proofs.Rewriting.{rewrite_refused, rewrite_read}
+use Rattle.roundtrips.proofs.Rewriting.{failed_not_passed, rewrite_refused, rewrite_read}
 use Rattle.roundtrips.proofs.rewrite.Statement.{statement}
 use Rattle.roundtrips.proofs.rewrite.Tie as tie
 
@@ -27,7 +27,7 @@ enum-known-verdict : tie.Need-enum-known-verdict
 enum-known-verdict c = search rules
 
 answer-of-requires : tie.Need-answer-of-requires
-answer-of-requires c κs = tt
+answer-of-requires c κs = λ s e. absurd (failed_not_passed e)
 
 same_length : tie.Need-same-length
 same_length c = refl

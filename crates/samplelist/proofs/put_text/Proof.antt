@@ -80,6 +80,24 @@ slice-aggregate-put-8 c = search rules
 put-requires-8 : tie.Need-put-requires-8
 put-requires-8 c κs = omega (arith, c.before.before.before.before.requires.1)
 
+slice-aggregate-put-9 : tie.Need-slice-aggregate-put-9
+slice-aggregate-put-9 c = search rules
+
+put-requires-9 : tie.Need-put-requires-9
+put-requires-9 c κs = omega (arith, c.before.before.before.before.requires.1)
+
+slice-aggregate-put-10 : tie.Need-slice-aggregate-put-10
+slice-aggregate-put-10 c = search rules
+
+put-requires-10 : tie.Need-put-requires-10
+put-requires-10 c κs = omega (arith, c.before.before.before.before.requires.1)
+
+slice-aggregate-put-11 : tie.Need-slice-aggregate-put-11
+slice-aggregate-put-11 c = search rules
+
+put-requires-11 : tie.Need-put-requires-11
+put-requires-11 c κs = omega (arith, c.before.before.before.before.requires.1)
+
 same_length : tie.Need-same-length
 same_length c = search rules
 
@@ -162,7 +180,28 @@ same-length-12 c = search rules
 
 returns-12 : tie.Need-returns-12
 unfolding text_at texts samples prints bytes
-returns-12 c = put_as (last _ c.before.before.before.before.before.before.before.requires.0 c.before.before.before.before.before.match.rest) refl c.before.before.put8.ensures
+returns-12 c = put_as c.before.before.before.before.before.match.keys12 refl c.before.before.put8.ensures
+
+same-length-13 : tie.Need-same-length-13
+same-length-13 c = search rules
+
+returns-13 : tie.Need-returns-13
+unfolding text_at texts samples prints bytes
+returns-13 c = put_as c.before.before.before.before.before.match.keys13 refl c.before.before.put9.ensures
+
+same-length-14 : tie.Need-same-length-14
+same-length-14 c = search rules
+
+returns-14 : tie.Need-returns-14
+unfolding text_at texts samples prints bytes
+returns-14 c = put_as c.before.before.before.before.before.match.keys14 refl c.before.before.put10.ensures
+
+same-length-15 : tie.Need-same-length-15
+same-length-15 c = search rules
+
+returns-15 : tie.Need-returns-15
+unfolding text_at texts samples prints bytes
+returns-15 c = put_as (last _ c.before.before.before.before.before.before.before.requires.0 c.before.before.before.before.before.match.rest) refl c.before.before.put11.ensures
 
 pub put-text-spec : {M : Type 1} → statement M
 put-text-spec =
@@ -192,6 +231,12 @@ put-text-spec =
     put-requires-7
     slice-aggregate-put-8
     put-requires-8
+    slice-aggregate-put-9
+    put-requires-9
+    slice-aggregate-put-10
+    put-requires-10
+    slice-aggregate-put-11
+    put-requires-11
     same_length
     returns
     same-length-2
@@ -215,4 +260,10 @@ put-text-spec =
     same-length-11
     returns-11
     same-length-12
-    returns-12)
+    returns-12
+    same-length-13
+    returns-13
+    same-length-14
+    returns-14
+    same-length-15
+    returns-15)

@@ -76,7 +76,7 @@ book-length-requires : tie.Need-book-length-requires
 unfolding lent
 book-length-requires c κs =
     let s = c.before.before.before.before.before.before.before.before.before.before.before.before.before in
-    (puttable (given s) _ _ s.requires, short (given s) _ _ s.requires)
+    (rw s.requires.grouped at (puttable (given s) _ _ _ s.requires), short (given s) _ _ _ s.requires)
 
 bytes-fit-requires : tie.Need-bytes-fit-requires
 bytes-fit-requires c κs = search rules
@@ -92,7 +92,7 @@ returns-2 c =
 
 put-book-requires : tie.Need-put-book-requires
 unfolding lent
-put-book-requires c κs = let s = c.before.before.before.before.before.before.before.before.before.before.before.before.before.before.before.before.before in (puttable (given s) _ _ s.requires, bytes_within (given s) _ _ _ (bytes-fitted c.before))
+put-book-requires c κs = let s = c.before.before.before.before.before.before.before.before.before.before.before.before.before.before.before.before.before in (puttable (given s) _ _ _ s.requires, bytes_within (given s) _ _ _ (bytes-fitted c.before))
 
 same_length : tie.Need-same-length
 same_length c = search rules

@@ -10,10 +10,6 @@ pub record Counts (bytes : List ℕ) (most answer : ℕ) : Type 0 where
 abbrev pub max_entries : ℕ
 max_entries = 65536
 
--- The most groups for which the bytes of a pair are counted; a book has fewer.
-abbrev pub max_groups : ℕ
-max_groups = 128
-
 -- What no line reaches, and no lines of a table's rows.
 abbrev pub max_line : ℕ
 max_line = 2000000

@@ -90,7 +90,7 @@ fn at_the_limits(session: &mut Session, marking: Marking) -> Compared {
         let setting = settings::some(&mut session.random, &forms.defined());
         let mut book = forms.book();
         if one_more {
-            book.rules.extend([0, 0, 0]);
+            book.rules.extend([0, 0, 0, 0]);
         }
         session.compare(Case::evaluate(&book, &setting))?;
         session.compare(Case::check(&book, &setting, &vec![0; book.n]))?;
@@ -101,7 +101,7 @@ fn at_the_limits(session: &mut Session, marking: Marking) -> Compared {
 fn full(random: &mut Random) -> Forms {
     let n = 1_024;
     let mut literals = |count: usize| -> Vec<u16> { (0..count).map(|_| random.below(2 * n) as u16).collect() };
-    let rules: Vec<Rule> = (0..2_048).map(|row| Rule { head: row % 700, body: literals(row as usize % 5) }).collect();
+    let rules: Vec<Rule> = (0..2_048).map(|row| Rule::of(row % 700, literals(row as usize % 5))).collect();
     let used: usize = rules.iter().map(|rule| rule.body.len()).sum();
     let mut clauses: Vec<Vec<u16>> = (0..2_047).map(|_| literals(5)).collect();
     clauses.push(literals(16_384 - used - 2_047 * 5));
@@ -126,7 +126,7 @@ fn longest_bodies(session: &mut Session) -> Compared {
     for last in [0, 1] {
         let mut literals = vec![0; 16_384];
         literals[16_383] = last;
-        let rules = (0..2_048).flat_map(|row| [1 + row % 1_023, 0, 16_384]).collect();
+        let rules = (0..2_048).flat_map(|row| [1 + row % 1_023, 0, 16_384, 0]).collect();
         let book = Book { rules, literals, ..Book::of_atoms(1_024) };
         let mut setting = vec![0; 1_024];
         setting[0] = 1;

@@ -5,7 +5,7 @@
 use super::indexed::book_of;
 use crate::random::Random;
 use crate::{
-    book::{Book, FollowingLengths, Verdict},
+    book::{Book, FollowingLengths, Verdict, RULE_WIDTH},
     differ::{
         books::{add_conditions, definition, Marking, Shape},
         case::{Case, Written},
@@ -89,13 +89,13 @@ fn twist(random: &mut Random, rule: &mut Rule) {
 
 /// Some rules have the body of another one instead of their own, or a part of it.
 fn share_bodies(random: &mut Random, book: &mut Book) {
-    let rows = book.rules.len() / 3;
+    let rows = book.rules.len() / RULE_WIDTH;
     for row in 0..rows {
         if random.one_in(10) {
             let other = random.below(rows);
-            let (start, count) = (book.rules[3 * other + 1], book.rules[3 * other + 2]);
+            let (start, count) = (book.rules[RULE_WIDTH * other + 1], book.rules[RULE_WIDTH * other + 2]);
             let left_out = random.below(usize::from(count) + 1).min(2) as u16;
-            book.rules[3 * row + 1..3 * row + 3].copy_from_slice(&[start + left_out, count - left_out]);
+            book.rules[RULE_WIDTH * row + 1..RULE_WIDTH * row + 3].copy_from_slice(&[start + left_out, count - left_out]);
         }
     }
 }

@@ -55,7 +55,7 @@ pub(super) fn book_of(random: &mut Random, total: usize) -> Book {
         let some = random.between(least as i64, most as i64) as usize;
         let count = if random.one_in(10) { 0 } else { some.min(left) };
         let start = random.below(most - count + 1);
-        book.rules.extend([random.below(n), start, count].map(|entry| entry as u16));
+        book.rules.extend([random.below(n), start, count, 0].map(|entry| entry as u16));
         left -= count;
     }
     book

@@ -3,6 +3,7 @@
 mod books;
 mod claims;
 mod following;
+mod groups;
 mod indexed;
 mod limits;
 mod minutes;
@@ -53,9 +54,15 @@ impl Family {
 
 /// `refusals` are the texts of docs/REFUSALS.md, `examples` the books of examples/, `claims` those of the program textsamples.
 pub fn all(refusals: Vec<Sample>, examples: Vec<Vec<u8>>, claims: Vec<Vec<u8>>) -> Vec<Family> {
-    let samples =
-        [samples::of_the_paper(), readings::texts::all(), readings::declared::texts(), readings::pages::all(), refusals.clone()]
-            .concat();
+    let samples = [
+        samples::of_the_paper(),
+        readings::texts::all(),
+        readings::declared::texts(),
+        readings::pages::all(),
+        readings::groups::texts(),
+        refusals.clone(),
+    ]
+    .concat();
     let texts: Vec<Vec<u8>> = samples.into_iter().map(|sample| sample.text).chain(limits::texts()).chain(examples).collect();
     vec![
         Family::new(0, "samples of the paper", |session| compare_samples(session, &samples::of_the_paper())),
@@ -67,6 +74,10 @@ pub fn all(refusals: Vec<Sample>, examples: Vec<Vec<u8>>, claims: Vec<Vec<u8>>) 
         Family::new(10, "readings on declared atoms", |session| {
             compare_samples(session, &readings::declared::texts())?;
             readings::declared::compare_all(session)
+        }),
+        Family::new(29, "readings on groups", |session| {
+            compare_samples(session, &readings::groups::texts())?;
+            readings::groups::compare_all(session)
         }),
         Family::new(28, "readings on the page", |session| compare_samples(session, &readings::pages::all())),
         Family::new(17, "readings on books written back", readings::written::compare_all),
@@ -93,6 +104,11 @@ pub fn all(refusals: Vec<Sample>, examples: Vec<Vec<u8>>, claims: Vec<Vec<u8>>) 
         Family::new(21, "texts written back", written::random_texts),
         Family::new(25, "tables indexed", indexed::compare_all),
         Family::new(27, "books for both makers", following::compare_all),
+        Family::new(30, "every small book of several groups", groups::every_small_book),
+        Family::new(31, "claims on several groups", groups::claims),
+        Family::new(32, "texts of several groups", groups::texts),
+        Family::new(33, "unsound tables of several groups", groups::unsound_tables),
+        Family::new(34, "tables of several groups written back", groups::tables_written_back),
     ]
 }
 

@@ -75,7 +75,7 @@ fn every_rule() -> Vec<Rule> {
     let mut bodies = vec![vec![]];
     bodies.extend((0..4).map(|literal| vec![literal]));
     bodies.extend((0..16).map(|pair| vec![pair / 4, pair % 4]));
-    [0, 1].into_iter().flat_map(|head| bodies.iter().map(move |body| Rule { head, body: body.clone() })).collect()
+    [0, 1].into_iter().flat_map(|head| bodies.iter().map(move |body| Rule::of(head, body.clone()))).collect()
 }
 
 /// Clauses and load lines, alone and together, that some settings satisfy and others do not.

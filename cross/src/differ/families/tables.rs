@@ -3,7 +3,7 @@
 
 use crate::random::Random;
 use crate::{
-    book::{Book, Claim},
+    book::{Book, Claim, RULE_WIDTH},
     differ::{
         books::{add_conditions, definition, Marking, Shape},
         case::{Case, Written},
@@ -54,8 +54,8 @@ fn overlapping(random: &mut Random) -> Book {
         book.minutes.push(random.between(-1_440, 1_440) as i16);
     }
     let (literals, terms) = (book.literals.len(), book.minutes.len());
-    for row in book.rules.chunks_exact_mut(3) {
-        move_row(random, &mut row[1..], literals, |number| number as u16);
+    for row in book.rules.chunks_exact_mut(RULE_WIDTH) {
+        move_row(random, &mut row[1..3], literals, |number| number as u16);
     }
     for row in book.clauses.chunks_exact_mut(2) {
         move_row(random, row, literals, |number| number as u16);
@@ -155,7 +155,7 @@ fn change_length(random: &mut Random, book: &mut Book) {
         _ => length + 1,
     };
     match table {
-        0 => book.rules.resize(wanted(book.rules.len(), 6_144, random), 0),
+        0 => book.rules.resize(wanted(book.rules.len(), 8_192, random), 0),
         1 => book.literals.resize(wanted(book.literals.len(), 16_384, random), 0),
         2 => book.clauses.resize(wanted(book.clauses.len(), 4_096, random), 0),
         3 => book.loads.resize(wanted(book.loads.len(), 256, random), 0),
@@ -213,7 +213,7 @@ pub fn arbitrary_claim(random: &mut Random, n: usize) -> Claim {
 /// Every table at its limit and just past it, with any number of atoms; also numbers that a u16 or a u32 would cut down to 2.
 fn extreme_sizes(session: &mut Session) -> Compared {
     for n in [0, 1, 2, 1_023, 1_024, 1_025, 65_535, 65_536, 65_538, (1 << 32) + 2, usize::MAX] {
-        let lengths = [6_144, 16_384, 4_096, 256, 4_096, 4_096];
+        let lengths = [8_192, 16_384, 4_096, 256, 4_096, 4_096];
         for past in 0..=lengths.len() {
             for more in [0, 1, 2, 3, 4, 65_536] {
                 let mut lengths = lengths;

@@ -99,7 +99,7 @@ pub(super) fn some_book(random: &mut Random, times: usize) -> (Book, Claim) {
     book.minutes = book.load_literals.iter().map(|_| minutes(random)).collect();
     for _ in 0..random.below(5 * times.min(n) + 1) {
         let [start, count] = part(random, book.literals.len());
-        book.rules.extend([random.below(n), start, count].map(|entry| entry as u16));
+        book.rules.extend([random.below(n), start, count, 0].map(|entry| entry as u16));
     }
     for _ in 0..random.below(4 * times) {
         book.clauses.extend(part(random, book.literals.len()).map(|entry| entry as u16));

@@ -2,7 +2,7 @@
 
 use super::texts::reading;
 use crate::{
-    book::{Book, Lengths, Verdict},
+    book::{in_group_0, Book, Lengths, Verdict},
     differ::{
         case::{Case, Written},
         samples::Sample,
@@ -251,7 +251,7 @@ fn among_other_faults(session: &mut Session) -> Compared {
         }
         let bad_minutes = Book { load_literals: vec![0], minutes: vec![1_441], ..book.clone() };
         session.stated(says, Case::check(&bad_minutes, &[0, 0], &[0, 0]), Verdict::refused(16, 0))?;
-        session.stated(says, Case::evaluate(&Book { rules: vec![2, 0, 0], ..book }, &[0, 0]), Verdict::refused(12, 0))?;
+        session.stated(says, Case::evaluate(&Book { rules: in_group_0(&[2, 0, 0]), ..book }, &[0, 0]), Verdict::refused(12, 0))?;
     }
     let declared = Book { marks: vec![0, 1], ..Book::of_atoms(2) };
     let says = "the maker's 21 is also for a declared atom that is set";

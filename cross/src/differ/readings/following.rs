@@ -4,7 +4,7 @@
 use super::order::{self, Refusal};
 use super::written::rows;
 use crate::{
-    book::{Book, Claim, Followed, FollowingLengths, MadeIndexed, Verdict},
+    book::{in_group_0, Book, Claim, Followed, FollowingLengths, MadeIndexed, Verdict, RULE_WIDTH},
     differ::{
         case::{Case, Written},
         following::{beside, lengths},
@@ -104,7 +104,7 @@ fn empty_bodies(session: &mut Session) -> Compared {
     let says = "a rule without a body lacks nothing, wherever it stands, and makes its head true at stage 1";
     stated_model(session, says, &ruled(1, &[(0, &[])]), &[0], &accepted(1, &[1], &[1], &[0]))?;
     stated_model(session, says, &ruled(1, &[(0, &[]), (0, &[0]), (0, &[])]), &[0], &accepted(1, &[1], &[1], &[0, 0, 0]))?;
-    let last = Book { rules: vec![1, 1, 0, 0, 0, 1, 1, 0, 0], literals: vec![3], ..Book::of_atoms(2) };
+    let last = Book { rules: in_group_0(&[1, 1, 0, 0, 0, 1, 1, 0, 0]), literals: vec![3], ..Book::of_atoms(2) };
     stated_model(session, says, &last, &[0; 2], &accepted(2, &[0, 1], &[2, 1], &[0, 1, 0]))?;
     let says = "no atoms and no rules are a book too";
     stated_model(session, says, &Book::default(), &[], &accepted(0, &[], &[], &[]))?;
@@ -158,7 +158,7 @@ fn atoms_that_become_unfounded(session: &mut Session) -> Compared {
 
 fn shared_bodies(session: &mut Session) -> Compared {
     let says = "what rows share counts for each of them";
-    let rules = vec![1, 0, 2, 2, 1, 3, 3, 0, 4, 3, 4, 0, 1, 3, 1];
+    let rules = in_group_0(&[1, 0, 2, 2, 1, 3, 3, 0, 4, 3, 4, 0, 1, 3, 1]);
     let book = Book { rules, literals: vec![0, 0, 3, 2], ..Book::of_atoms(4) };
     stated_model(session, says, &book, &[0; 4], &accepted(1, &[0, 0, 0, 1], &[0, 1, 1, 1], &[2, 2, 3, 0, 1]))?;
     stated_model(session, says, &book, &[1, 0, 0, 0], &accepted(2, &[1, 1, 0, 1], &[0, 1, 2, 1], &[0, 1, 1, 0, 0]))
@@ -235,7 +235,8 @@ fn faults_beside_bad_values(session: &mut Session) -> Compared {
 type Lent = (Vec<u8>, FollowingLengths);
 
 /// Of 17 and 33 one fault for each reason.
-const REFUSALS: [Refusal<Lent>; 7] = [
+const REFUSALS: [Refusal<Lent>; 8] = [
+    (35, 1, |book, _| book.rules.extend([0, 0, 0, 1])),
     (17, 0, |_, (_, lent)| lent.levels += 1),
     (17, 0, |_, (_, lent)| lent.counts -= 1),
     (31, 1, |book, _| book.marks[1] = 2),
@@ -243,7 +244,7 @@ const REFUSALS: [Refusal<Lent>; 7] = [
     (33, 0, |_, (_, lent)| lent.entries += 1),
     (33, 0, |book, (_, lent)| {
         book.literals.resize(10, 0);
-        book.rules.extend([0, 1, 9].repeat(1_900));
+        book.rules.extend([0, 1, 9, 0].repeat(1_900));
         lent.counts += 1_900;
     }),
     (21, 1, |_, (open_values, _)| open_values[1] = 2),
@@ -253,7 +254,7 @@ fn refusals_in_order(session: &mut Session) -> Compared {
     let exact = lengths(&order::sound(), Written::all(2));
     order::every_set(&(vec![0, 0], exact), &REFUSALS, |book, (open_values, lent), verdict| {
         let case = Case::evaluate_indexed(&book, &open_values, lent);
-        session.stated("11 to 16, 17, 31, 33, 21, in this order", case, verdict)
+        session.stated("11 to 16, 34, 35, 17, 31, 33, 21, in this order", case, verdict)
     })
 }
 
@@ -282,7 +283,7 @@ fn totals(session: &mut Session) -> Compared {
             let lent = FollowingLengths { entries, ..exact };
             session.stated(says, Case::evaluate_indexed(&book, &[0], lent), Verdict::refused(number, 0))?;
         }
-        let sizes: Vec<u16> = book.rules.chunks(3).map(|row| row[2]).collect();
+        let sizes: Vec<u16> = book.rules.chunks(RULE_WIDTH).map(|row| row[2]).collect();
         if total <= 16_384 {
             let solved = session.solver.evaluate_indexed(&book, &[0], &exact);
             let case = Case::evaluate_indexed(&book, &[0], exact);

@@ -2,6 +2,7 @@
 
 pub mod declared;
 pub mod following;
+pub mod groups;
 pub mod indexed;
 mod order;
 pub mod pages;

@@ -1,7 +1,7 @@
 //! The order of refusals: every set of faults is put into what a call is lent, and the first fault wins.
 
 use crate::{
-    book::{Book, Verdict},
+    book::{in_group_0, Book, Verdict},
     differ::session::Compared,
 };
 
@@ -11,7 +11,7 @@ pub type Refusal<L> = (u32, usize, fn(&mut Book, &mut L));
 /// Two atoms, with one row and one place of each kind.
 pub fn sound() -> Book {
     Book {
-        rules: vec![0, 0, 1],
+        rules: in_group_0(&[0, 0, 1]),
         literals: vec![3],
         clauses: vec![0, 1],
         loads: vec![0, 0, 0, 1],
@@ -22,14 +22,15 @@ pub fn sound() -> Book {
 }
 
 /// One fault of each number that tables alone can have.
-pub fn of_tables<L>() -> [Refusal<L>; 6] {
+pub fn of_tables<L>() -> [Refusal<L>; 7] {
     [
         (11, 0, |book, _| book.minutes.push(0)),
-        (12, 1, |book, _| book.rules.extend([0, 65_535, 1])),
+        (12, 1, |book, _| book.rules.extend([0, 65_535, 1, 0])),
         (13, 1, |book, _| book.clauses.extend([65_535, 1])),
         (14, 1, |book, _| book.loads.extend([0, 0, -1, 0])),
         (15, 1, |book, _| book.literals.push(4)),
         (16, 1, |book, _| (book.load_literals.push(4), book.minutes.push(0)).1),
+        (34, 1, |book, _| book.rules.extend([0, 0, 0, 8])),
     ]
 }
 

@@ -2,7 +2,7 @@
 
 use super::order::{self, Refusal};
 use crate::{
-    book::{Book, Claim, Verdict},
+    book::{in_group_0, Book, Claim, Verdict},
     calls::TEXT_MAX,
     differ::{
         case::Case,
@@ -55,7 +55,7 @@ fn lines(session: &mut Session) -> Compared {
     stated_text(session, "rows of nothing", &empty, &plain_claim(0), "(atoms 0)\n(clause)\n(load 1 -1)\n(claim)\n")?;
 
     let says = "every marked atom is named, whether it heads a rule or not, and no line without one";
-    let marked = |marks: [u8; 3]| Book { rules: vec![1, 0, 0], marks: marks.into(), ..Book::of_atoms(3) };
+    let marked = |marks: [u8; 3]| Book { rules: in_group_0(&[1, 0, 0]), marks: marks.into(), ..Book::of_atoms(3) };
     let texts = [([0, 0, 0], ""), ([1, 1, 1], "(defined 0 1 2)\n"), ([0, 1, 0], "(defined 1)\n"), ([1, 0, 1], "(defined 0 2)\n")];
     for (marks, line) in texts {
         let text = format!("(atoms 3)\n{line}(rule 1)\n(claim (0 0) (0 0) (0 0))\n");
@@ -70,7 +70,7 @@ fn lines(session: &mut Session) -> Compared {
 /// Rows that share literals and stand before one another, with places that no row uses.
 fn shared_literals(session: &mut Session) -> Compared {
     let book = Book {
-        rules: vec![1, 2, 3, 0, 1, 2, 1, 5, 0, 1, 2, 3],
+        rules: in_group_0(&[1, 2, 3, 0, 1, 2, 1, 5, 0, 1, 2, 3]),
         literals: vec![9, 0, 3, 4, 5],
         clauses: vec![4, 1, 1, 3, 3, 0],
         loads: vec![-1, 1, 2, 1, 0, 0, 1, 2, 5, 4, 3, 0],
@@ -120,7 +120,7 @@ const REFUSALS: [Refusal<(Claim, usize)>; 3] =
 fn refusals_in_order(session: &mut Session) -> Compared {
     order::every_set(&(plain_claim(2), 200), &REFUSALS, |book, (claim, room), verdict| {
         let case = Case::write(&book, &claim.values, &claim.levels, room);
-        session.stated("11 to 16, 17, 31, 32, in this order", case, verdict)
+        session.stated("11 to 16, 34, 17, 31, 32, in this order", case, verdict)
     })?;
     let says = "17 covers values and levels, and 31 a wrong number of marks";
     let marked = |marks: &[u8]| Book { marks: marks.to_vec(), ..order::sound() };
@@ -133,7 +133,7 @@ fn refusals_in_order(session: &mut Session) -> Compared {
 pub(super) fn rows(literals: usize, rules: &[(usize, u16)], clauses: &[(usize, u16)]) -> Book {
     let mut book = Book { literals: vec![0; literals], ..Book::of_atoms(1) };
     for &(times, count) in rules {
-        book.rules.extend([0, 0, count].repeat(times));
+        book.rules.extend([0, 0, count, 0].repeat(times));
     }
     for &(times, count) in clauses {
         book.clauses.extend([0, count].repeat(times));

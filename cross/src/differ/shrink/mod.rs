@@ -69,8 +69,11 @@ fn smaller_claims<'a>(
     let tables = tables::smaller(book).map(move |book| case(&book, values, levels));
     let values_smaller = smaller_numbers(values).map(move |values| case(book, &values, levels));
     let levels_smaller = smaller_numbers(levels).map(move |levels| case(book, values, &levels));
-    let atoms = tables::without_an_atom(book).filter(|_| values.len() == book.n && levels.len() == book.n);
-    let atoms = atoms.map(move |(atom, book)| case(&book, &without(values, atom..atom + 1), &without(levels, atom..atom + 1)));
+    let by_atom = values.len() == book.n && levels.len().is_multiple_of(book.n.max(1));
+    let atoms = tables::without_an_atom(book).filter(move |_| by_atom);
+    let of_others =
+        move |atom: usize| levels.chunks(values.len()).flat_map(|group| without(group, atom..atom + 1)).collect::<Vec<u16>>();
+    let atoms = atoms.map(move |(atom, book)| case(&book, &without(values, atom..atom + 1), &of_others(atom)));
     Box::new(atoms.chain(tables).chain(values_smaller).chain(levels_smaller))
 }
 

@@ -1,12 +1,12 @@
 //! Smaller tables.
 
 use super::{parts, smaller_numbers, without, Smaller};
-use crate::book::Book;
+use crate::book::{Book, RULE_WIDTH};
 use std::ops::Range;
 
 /// Without rows, without places in the tables that rows point into, with smaller numbers.
 pub fn smaller(book: &Book) -> Smaller<'_, Book> {
-    let rules = rows(&book.rules, 3).map(|rules| Book { rules, ..book.clone() });
+    let rules = rows(&book.rules, RULE_WIDTH).map(|rules| Book { rules, ..book.clone() });
     let clauses = rows(&book.clauses, 2).map(|clauses| Book { clauses, ..book.clone() });
     let loads = rows(&book.loads, 4).map(|loads| Book { loads, ..book.clone() });
     let literals = parts(book.literals.len()).map(|part| without_literals(book, part));
@@ -23,9 +23,9 @@ fn rows<T: Clone>(table: &[T], width: usize) -> impl Iterator<Item = Vec<T>> + '
 
 fn without_literals(book: &Book, part: Range<usize>) -> Book {
     let mut smaller = Book { literals: without(&book.literals, part.clone()), ..book.clone() };
-    for row in smaller.rules.chunks_exact_mut(3) {
+    for row in smaller.rules.chunks_exact_mut(RULE_WIDTH) {
         let (start, count) = moved(row[1].into(), row[2].into(), &part);
-        row[1..].copy_from_slice(&[start as u16, count as u16]);
+        row[1..3].copy_from_slice(&[start as u16, count as u16]);
     }
     for row in smaller.clauses.chunks_exact_mut(2) {
         let (start, count) = moved(row[0].into(), row[1].into(), &part);
@@ -66,14 +66,15 @@ fn numbers(book: &Book) -> Smaller<'_, Book> {
 /// Each atom that no head and no literal names, and the book without it and its mark: atoms above it move down.
 pub fn without_an_atom(book: &Book) -> Smaller<'_, (usize, Book)> {
     let literals = || book.literals.iter().chain(&book.load_literals).map(|&literal| usize::from(literal / 2));
-    let named =
-        move |atom: usize| literals().chain(book.rules.iter().step_by(3).map(|&head| usize::from(head))).any(|other| other == atom);
+    let named = move |atom: usize| {
+        literals().chain(book.rules.iter().step_by(RULE_WIDTH).map(|&head| usize::from(head))).any(|other| other == atom)
+    };
     Box::new((0..book.n.min(1_024)).rev().filter(move |&atom| !named(atom)).map(|atom| {
         let mut smaller = Book { n: book.n - 1, ..book.clone() };
         smaller.marks = without(&book.marks, atom.min(book.marks.len())..(atom + 1).min(book.marks.len()));
         let entries = smaller.literals.iter_mut().chain(&mut smaller.load_literals);
         entries.filter(|literal| usize::from(**literal / 2) > atom).for_each(|literal| *literal -= 2);
-        let heads = smaller.rules.iter_mut().step_by(3);
+        let heads = smaller.rules.iter_mut().step_by(RULE_WIDTH);
         heads.filter(|head| usize::from(**head) > atom).for_each(|head| *head -= 1);
         (atom, smaller)
     }))

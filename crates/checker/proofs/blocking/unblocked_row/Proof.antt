@@ -44,8 +44,8 @@ shared-slice-read-if1 c = row_head c.before.before.before.before.before.before.b
 rows-less : tie.Need-rows-smaller invariant-loop decreases-loop invariant-rows decreases-rows
 rows-less c = omega arith
 
-rows-again : tie.Need-rows-preserved invariant-loop decreases-loop invariant-rows decreases-rows
-rows-again c =
+rows_again : tie.Need-rows-preserved invariant-loop decreases-loop invariant-rows decreases-rows
+rows_again c =
     let found = c.before.before.before.before.before.rows.invariant in
     (row_passed c.before.before.before.before.before.before.before.before.before.before.before.requires (omega arith) c.before.before.before.rule-head.ensures.is found.0 c.before.before.rule-group.ensures.is c.if1.true, found.1)
 
@@ -125,7 +125,7 @@ unblocked-row-spec =
     rule-group-requires
     shared-slice-read-if1
     rows-less
-    rows-again
+    rows_again
     rule-start-requires
     rule-size-requires
     mul-level

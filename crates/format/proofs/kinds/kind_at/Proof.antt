@@ -4,7 +4,7 @@ use mathlib.Core.Path.{◌≡◌, sym, ◌∙◌}
 use mathlib.Core.List.{List, [], ◌∷◌}
 use borrow.Author.Rules.{rules}
 use Rattle.format.specs.declared.kinds.Kind.{Kind}
-use Rattle.format.specs.declared.kinds.Kind.TheVariants.{Rule, Clause, Load, Open, Claim, Defined}
+use Rattle.format.specs.declared.kinds.Kind.TheVariants.{Rule, Clause, Load, Open, Claim, Defined, Also}
 use Rattle.format.specs.Words.{word_of, kind_at}
 use Rattle.format.proofs.KindLaws.{first_kind, kind_first, kind_here, kind_later, kind_none}
 use Rattle.format.proofs.kinds.kind_at.Statement.{statement}
@@ -23,7 +23,7 @@ returns : tie.Need-returns
 unfolding word_of
 returns c = sym (kind_first _ _ ∙ kind_here _ _ _ _ (sym c.before.word_at.ensures ∙ c.if1.true))
 
-past-atoms : (c : tie.Else1) → Among c.before.before.before.before (Rule ∷ Clause ∷ Load ∷ Open ∷ Claim ∷ Defined ∷ [])
+past-atoms : (c : tie.Else1) → Among c.before.before.before.before (Rule ∷ Clause ∷ Load ∷ Open ∷ Claim ∷ Defined ∷ Also ∷ [])
 unfolding word_of
 past-atoms c = kind_first _ _ ∙ kind_later _ _ _ _ (sym c.before.word_at.ensures ∙ c.if1.false)
 
@@ -37,7 +37,7 @@ returns-2 : tie.Need-returns-2
 unfolding word_of
 returns-2 c = sym (past-atoms c.before.before.before ∙ kind_here _ _ _ _ (sym c.before.word-at2.ensures ∙ c.if2.true))
 
-past-rule : (c : tie.Else2) → Among c.before.before.before.before.before.before.before (Clause ∷ Load ∷ Open ∷ Claim ∷ Defined ∷ [])
+past-rule : (c : tie.Else2) → Among c.before.before.before.before.before.before.before (Clause ∷ Load ∷ Open ∷ Claim ∷ Defined ∷ Also ∷ [])
 unfolding word_of
 past-rule c = past-atoms c.before.before.before ∙ kind_later _ _ _ _ (sym c.before.word-at2.ensures ∙ c.if2.false)
 
@@ -51,7 +51,7 @@ returns-3 : tie.Need-returns-3
 unfolding word_of
 returns-3 c = sym (past-rule c.before.before.before ∙ kind_here _ _ _ _ (sym c.before.word-at3.ensures ∙ c.if3.true))
 
-past-clause : (c : tie.Else3) → Among c.before.before.before.before.before.before.before.before.before.before (Load ∷ Open ∷ Claim ∷ Defined ∷ [])
+past-clause : (c : tie.Else3) → Among c.before.before.before.before.before.before.before.before.before.before (Load ∷ Open ∷ Claim ∷ Defined ∷ Also ∷ [])
 unfolding word_of
 past-clause c = past-rule c.before.before.before ∙ kind_later _ _ _ _ (sym c.before.word-at3.ensures ∙ c.if3.false)
 
@@ -65,7 +65,7 @@ returns-4 : tie.Need-returns-4
 unfolding word_of
 returns-4 c = sym (past-clause c.before.before.before ∙ kind_here _ _ _ _ (sym c.before.word-at4.ensures ∙ c.if4.true))
 
-past-load : (c : tie.Else4) → Among c.before.before.before.before.before.before.before.before.before.before.before.before.before (Open ∷ Claim ∷ Defined ∷ [])
+past-load : (c : tie.Else4) → Among c.before.before.before.before.before.before.before.before.before.before.before.before.before (Open ∷ Claim ∷ Defined ∷ Also ∷ [])
 unfolding word_of
 past-load c = past-clause c.before.before.before ∙ kind_later _ _ _ _ (sym c.before.word-at4.ensures ∙ c.if4.false)
 
@@ -79,7 +79,7 @@ returns-5 : tie.Need-returns-5
 unfolding word_of
 returns-5 c = sym (past-load c.before.before.before ∙ kind_here _ _ _ _ (sym c.before.word-at5.ensures ∙ c.if5.true))
 
-past_open : (c : tie.Else5) → Among c.before.before.before.before.before.before.before.before.before.before.before.before.before.before.before.before (Claim ∷ Defined ∷ [])
+past_open : (c : tie.Else5) → Among c.before.before.before.before.before.before.before.before.before.before.before.before.before.before.before.before (Claim ∷ Defined ∷ Also ∷ [])
 unfolding word_of
 past_open c = past-load c.before.before.before ∙ kind_later _ _ _ _ (sym c.before.word-at5.ensures ∙ c.if5.false)
 
@@ -93,7 +93,7 @@ returns-6 : tie.Need-returns-6
 unfolding word_of
 returns-6 c = sym (past_open c.before.before.before ∙ kind_here _ _ _ _ (sym c.before.word-at6.ensures ∙ c.if6.true))
 
-past-claim : (c : tie.Else6) → Among c.before.before.before.before.before.before.before.before.before.before.before.before.before.before.before.before.before.before.before (Defined ∷ [])
+past-claim : (c : tie.Else6) → Among c.before.before.before.before.before.before.before.before.before.before.before.before.before.before.before.before.before.before.before (Defined ∷ Also ∷ [])
 unfolding word_of
 past-claim c = past_open c.before.before.before ∙ kind_later _ _ _ _ (sym c.before.word-at6.ensures ∙ c.if6.false)
 
@@ -107,12 +107,26 @@ returns-7 : tie.Need-returns-7
 unfolding word_of
 returns-7 c = sym (past-claim c.before.before.before ∙ kind_here _ _ _ _ (sym c.before.word-at7.ensures ∙ c.if7.true))
 
-past-defined : (c : tie.Else7) → Among c.before.before.before.before.before.before.before.before.before.before.before.before.before.before.before.before.before.before.before.before.before.before []
+past-defined : (c : tie.Else7) → Among c.before.before.before.before.before.before.before.before.before.before.before.before.before.before.before.before.before.before.before.before.before.before (Also ∷ [])
 unfolding word_of
 past-defined c = past-claim c.before.before.before ∙ kind_later _ _ _ _ (sym c.before.word-at7.ensures ∙ c.if7.false)
 
+slice-aggregate-word-at-8 : tie.Need-slice-aggregate-word-at-8
+slice-aggregate-word-at-8 c = search rules
+
+word-at-requires-8 : tie.Need-word-at-requires-8
+word-at-requires-8 c κs = search rules
+
 returns-8 : tie.Need-returns-8
-returns-8 c = sym (past-defined c ∙ kind_none _ _)
+unfolding word_of
+returns-8 c = sym (past-defined c.before.before.before ∙ kind_here _ _ _ _ (sym c.before.word-at8.ensures ∙ c.if8.true))
+
+past-also : (c : tie.Else8) → Among c.before.before.before.before.before.before.before.before.before.before.before.before.before.before.before.before.before.before.before.before.before.before.before.before.before []
+unfolding word_of
+past-also c = past-defined c.before.before.before ∙ kind_later _ _ _ _ (sym c.before.word-at8.ensures ∙ c.if8.false)
+
+returns-9 : tie.Need-returns-9
+returns-9 c = sym (past-also c ∙ kind_none _ _)
 
 pub kind-at-spec : {M : Type 1} → statement M
 kind-at-spec =
@@ -139,4 +153,7 @@ kind-at-spec =
     slice-aggregate-word-at-7
     word-at-requires-7
     returns-7
-    returns-8)
+    slice-aggregate-word-at-8
+    word-at-requires-8
+    returns-8
+    returns-9)

@@ -2,7 +2,7 @@
 -- Assumes nothing.
 use borrow.Author.Rules.{rules}
 use native.Mathlib.Nat.{add-zero}
-use Rattle.format.specs.Views.{kind_number, same_kind}
+use Rattle.format.specs.Views.{kind_number, same_kind, rule_kind}
 use Rattle.judging.specs.States.{phase_after, advanced}
 use Rattle.judging.specs.internal.Shapes.{added}
 use Rattle.judging.proofs.AddedLaws.{clause_limits, clause_space}
@@ -17,7 +17,7 @@ add-then-2 : tie.Need-overflow-add-then-2
 add-then-2 c = let few = counts_within_lem _ c.before.before.requires.0.limits in search rules
 
 returns : tie.Need-returns
-unfolding added advanced phase_after same_kind kind_number
+unfolding added advanced phase_after rule_kind same_kind kind_number
 returns c =
     let begin = c.before.before.before.before.before.before.before.before in
     record {

@@ -1,9 +1,9 @@
 -- `judging::reached::levels_told` meets its contract: a level for each atom in each group.
 -- Assumes nothing.
 use Prim.Native.Nat.{ℕ, ◌*◌}
-use mathlib.Core.Path.{◌≡◌, ap}
+use mathlib.Core.Path.{ap}
 use borrow.Author.Rules.{rules}
-use Rattle.judging.specs.States.{groups_reached}
+use Rattle.judging.proofs.StateLaws.{levels_most}
 use Rattle.judging.proofs.reached.levels_told.Statement.{statement}
 use Rattle.judging.proofs.reached.levels_told.Tie as tie
 
@@ -11,8 +11,10 @@ groups-reached-requires : tie.Need-groups-reached-requires
 groups-reached-requires c κs = search rules
 
 mul-result : tie.Need-overflow-mul-result
-unfolding groups_reached
-mul-result c = rw c.before.groups-reached.ensures (search rules)
+mul-result c =
+    let begin = c.before.before in
+    let few = levels_most begin.args.reached begin.requires.0 begin.requires.1 in
+    rw c.before.groups-reached.ensures (search (rules, few))
 
 returns : tie.Need-returns
 returns c = ap (λ (g : ℕ). c.before.before.args.reached.size * g) c.before.groups-reached.ensures

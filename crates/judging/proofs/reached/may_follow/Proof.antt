@@ -44,6 +44,12 @@ enum-told-7 c = search rules
 enum-told-8 : tie.Need-enum-told-8
 enum-told-8 c = search rules
 
+between-requires-6 : tie.Need-between-requires-6
+between-requires-6 c κs = search rules
+
+enum-told-9 : tie.Need-enum-told-9
+enum-told-9 c = search rules
+
 returns : tie.Need-returns
 unfolding may_follow
 returns c = rw c.enum_told.given.1
@@ -74,7 +80,11 @@ returns-7 c = rw c.enum-told7.given.1
 
 returns-8 : tie.Need-returns-8
 unfolding may_follow
-returns-8 c = rw c.enum-told8.given.1
+returns-8 c = rw c.before.enum-told8.given.1 c.between6.ensures
+
+returns-9 : tie.Need-returns-9
+unfolding may_follow
+returns-9 c = rw c.enum-told9.given.1
 
 pub may-follow-spec : {M : Type 1} → statement M
 may-follow-spec =
@@ -93,6 +103,8 @@ may-follow-spec =
     between-requires-5
     enum-told-7
     enum-told-8
+    between-requires-6
+    enum-told-9
     returns
     returns-2
     returns-3
@@ -100,4 +112,5 @@ may-follow-spec =
     returns-5
     returns-6
     returns-7
-    returns-8)
+    returns-8
+    returns-9)

@@ -1,10 +1,10 @@
 -- `lines::line::read_form` meets its contract: each kind is read on from after its word, and adds to its own tables.
 -- Assumes nothing.
 use borrow.Author.Rules.{rules}
-use Rattle.format.specs.declared.kinds.Kind.TheVariants.{Atoms, Rule, Clause, Load, Open, Claim, Defined}
+use Rattle.format.specs.declared.kinds.Kind.TheVariants.{Atoms, Rule, Clause, Load, Open, Claim, Defined, Also}
 use Rattle.format.specs.Words.{word_of}
 use Rattle.forms.specs.Contents.{lent_tables}
-use Rattle.forms.proofs.DispatchLaws.{inside_after, atoms_form_lem, rule_form_lem, clause_form_lem, load_form_lem, open_form_lem, claim_form_lem, defined_form_lem, no_kind}
+use Rattle.forms.proofs.DispatchLaws.{inside_after, atoms_form_lem, rule_form_lem, clause_form_lem, load_form_lem, open_form_lem, claim_form_lem, defined_form_lem, also_form_lem, no_kind}
 use Rattle.lines.proofs.line.read_form.Statement.{statement}
 use Rattle.lines.proofs.line.read_form.Tie as tie
 
@@ -85,7 +85,7 @@ read-claim-form-requires : tie.Need-read-claim-form-requires
 unfolding word_of
 read-claim-form-requires c κs =
     let here = c.before.before.before.before in
-    (inside_after (at_start here).requires.inside here.kind_at.ensures Claim c.before.before.enum-told6.given.1, (at_start here).requires.atoms)
+    (inside_after (at_start here).requires.inside here.kind_at.ensures Claim c.before.before.enum-told6.given.1, ((at_start here).requires.atoms, (at_start here).requires.groups))
 
 enum-told-7 : tie.Need-enum-told-7
 enum-told-7 c = search rules
@@ -101,6 +101,18 @@ read-defined-form-requires c κs =
 
 enum-told-8 : tie.Need-enum-told-8
 enum-told-8 c = search rules
+
+add-read-also-form : tie.Need-overflow-add-read-also-form
+add-read-also-form c = search rules
+
+read-also-form-requires : tie.Need-read-also-form-requires
+unfolding word_of
+read-also-form-requires c κs =
+    let here = c.before.before.before.before in
+    (inside_after (at_start here).requires.inside here.kind_at.ensures Also c.before.before.enum-told8.given.1, (at_start here).requires.counts)
+
+enum-told-9 : tie.Need-enum-told-9
+enum-told-9 c = search rules
 
 same_length : tie.Need-same-length
 same_length c = search rules
@@ -187,8 +199,21 @@ returns-7 c =
     let told = here.before.before in
     defined_form_lem _ _ told.before.before.kind_at.ensures _ told.enum-told7.given.1 here.read-defined-form.ensures
 
+same-length-13 : tie.Need-same-length-13
+same-length-13 c = search rules
+
+same-length-14 : tie.Need-same-length-14
+same-length-14 c = search rules
+
 returns-8 : tie.Need-returns-8
-returns-8 c = no_kind _ _ c.before.before.kind_at.ensures c.enum-told8.given.1
+unfolding lent_tables
+returns-8 c =
+    let here = c.before.before.before.before in
+    let told = here.before.before.before in
+    also_form_lem _ _ told.before.before.kind_at.ensures _ _ told.enum-told8.given.1 here.read-also-form.ensures
+
+returns-9 : tie.Need-returns-9
+returns-9 c = no_kind _ _ c.before.before.kind_at.ensures c.enum-told9.given.1
 
 pub read-form-spec : {M : Type 1} → statement M
 read-form-spec =
@@ -217,6 +242,9 @@ read-form-spec =
     add-read-defined-form
     read-defined-form-requires
     enum-told-8
+    add-read-also-form
+    read-also-form-requires
+    enum-told-9
     same_length
     returns
     same-length-2
@@ -236,4 +264,7 @@ read-form-spec =
     returns-6
     same-length-12
     returns-7
-    returns-8)
+    same-length-13
+    same-length-14
+    returns-8
+    returns-9)

@@ -8,7 +8,7 @@ use Rattle.samples.proofs.chains.chain_rules.Statement.{statement}
 use Rattle.samples.proofs.chains.chain_rules.Tie as tie
 
 abbrev invariant-loop : tie.invariant-loop
-invariant-loop falling rules₀ row₀ rules row = (row ≤ 1023) × (length rules ≡ 3069)
+invariant-loop falling rules₀ row₀ rules row = (row ≤ 1023) × (length rules ≡ 4092)
 
 abbrev decreases-loop : tie.decreases-loop
 decreases-loop falling rules₀ row₀ rules row = 1023 - row

@@ -7,10 +7,10 @@ use Rattle.samples.proofs.paper.run_listed.Statement.{statement}
 use Rattle.samples.proofs.paper.run_listed.Tie as tie
 
 abbrev invariant-loop : tie.invariant-loop
-invariant-loop sample₀ sample = sample ≤ 12
+invariant-loop sample₀ sample = sample ≤ 15
 
 abbrev decreases-loop : tie.decreases-loop
-decreases-loop sample₀ sample = 12 - sample
+decreases-loop sample₀ sample = 15 - sample
 
 loop-holds : tie.Need-loop-init invariant-loop decreases-loop
 loop-holds c = omega arith

@@ -1,15 +1,15 @@
--- `tables::refusals::first_refusal` meets its contract: a mark is looked at first, and what does not fit only if no mark is refused.
+-- `tables::refusals::first_refusal` meets its contract: what was found is looked at first, and what does not fit only if nothing was found.
 -- Assumes nothing.
 use borrow.Author.Rules.{rules}
-use Rattle.tables.proofs.RefusalLaws.{mark_refuses, unfit_refuses, neither_refuses}
+use Rattle.tables.proofs.RefusalLaws.{found_first, unfit_refuses, neither_refuses}
 use Rattle.tables.proofs.refusals.first_refusal.Statement.{statement}
 use Rattle.tables.proofs.refusals.first_refusal.Tie as tie
 
 -- Each answer is found among all three, so that none relies on the order in which the tests stand.
-ruleset refusals = (mark_refuses, unfit_refuses, neither_refuses)
+ruleset refusals = (found_first, unfit_refuses, neither_refuses)
 
-enum-known-mark : tie.Need-enum-known-mark
-enum-known-mark c = search rules
+enum-known-found : tie.Need-enum-known-found
+enum-known-found c = search rules
 
 returns : tie.Need-returns
 returns c = search (rules, refusals)
@@ -24,4 +24,4 @@ returns-3 : tie.Need-returns-3
 returns-3 c = search (rules, refusals)
 
 pub first-refusal-spec : {M : Type 1} → statement M
-first-refusal-spec = tie.close (tie.spec enum-known-mark returns enum_told returns-2 returns-3)
+first-refusal-spec = tie.close (tie.spec enum-known-found returns enum_told returns-2 returns-3)

@@ -60,6 +60,13 @@ from-6 : (marks : List ℕ) (c : tie.After-enum-told5) → From 6 marks (fit-6 c
 unfolding table_tests lent
 from-6 marks c = nothing_leaves _ _ _ _ (from-5 marks c.before.before.before) c.before.before.bad-term.ensures c.enum-told5.given.1
 
+abbrev fit-7 : tie.After-enum-told6 → tie.Else1
+fit-7 c = fit-6 c.before.before.before
+
+from-7 : (marks : List ℕ) (c : tie.After-enum-told6) → From 7 marks (fit-7 c)
+unfolding table_tests lent
+from-7 marks c = nothing_leaves _ _ _ _ (from-6 marks c.before.before.before) c.before.before.row-above.ensures c.enum-told6.given.1
+
 sizes-fit-requires : tie.Need-sizes-fit-requires
 sizes-fit-requires c κs = search rules
 
@@ -144,9 +151,24 @@ returns-6 c = λ marks.
 enum-told-5 : tie.Need-enum-told-5
 enum-told-5 c = search rules
 
+row-above-requires : tie.Need-row-above-requires
+row-above-requires c κs = search rules
+
+enum-known-row-4 : tie.Need-enum-known-row-4
+enum-known-row-4 c = search rules
+
 returns-7 : tie.Need-returns-7
+unfolding table_tests lent
+returns-7 c = λ marks.
+    let at = c.before.before.before in
+    found_refuses _ _ _ _ _ (from-6 marks at.before) at.row-above.ensures c.before.row4.given.1
+
+enum-told-6 : tie.Need-enum-told-6
+enum-told-6 c = search rules
+
+returns-8 : tie.Need-returns-8
 unfolding table_tests lent first_fault
-returns-7 c = λ marks. sym (from-6 marks c)
+returns-8 c = λ marks. sym (from-7 marks c)
 
 pub table-fault-spec : {M : Type 1} → statement M
 table-fault-spec =
@@ -174,4 +196,8 @@ table-fault-spec =
     enum-known-place-2
     returns-6
     enum-told-5
-    returns-7)
+    row-above-requires
+    enum-known-row-4
+    returns-7
+    enum-told-6
+    returns-8)

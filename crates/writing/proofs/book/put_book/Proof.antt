@@ -34,14 +34,14 @@ unfolding lent
 put-rows-requires c κs =
     let start = c.before.before.before.before.before.before.before.before.before.before.before.before.before.before.before.before.before in
     let long = book_length (given start) start.args.values.now start.args.levels.now start.requires.0.marked in
-    (start.requires.0.rules, (start.requires.0.clauses, (start.requires.0.loads, omega (arith, start.requires.1, c.before.before.before.before.before.before.before.put-atoms.ensures.answered, c.before.before.before.put-defined.ensures.answered))))
+    ((start.requires.0.rules, start.requires.0.grouped), (start.requires.0.clauses, (start.requires.0.loads, omega (arith, start.requires.1, c.before.before.before.before.before.before.before.put-atoms.ensures.answered, c.before.before.before.put-defined.ensures.answered))))
 
 put-claim-requires : tie.Need-put-claim-requires
 unfolding lent
 put-claim-requires c κs =
     let start = c.before.before.before.before.before.before.before.before.before.before.before.before.before.before.before.before.before.before.before.before.before in
     let long = book_length (given start) start.args.values.now start.args.levels.now start.requires.0.marked in
-    (omega (arith, start.requires.0.levelled), omega (arith, start.requires.1, c.before.before.before.before.before.before.before.before.before.before.before.put-atoms.ensures.answered, c.before.before.before.before.before.before.before.put-defined.ensures.answered, c.before.before.before.put-rows.ensures.answered))
+    (start.requires.0.levelled, rw start.requires.0.grouped (omega (arith, start.requires.1, c.before.before.before.before.before.before.before.before.before.before.before.put-atoms.ensures.answered, c.before.before.before.before.before.before.before.put-defined.ensures.answered, c.before.before.before.put-rows.ensures.answered)))
 
 same_length : tie.Need-same-length
 same_length c = search rules
@@ -51,7 +51,7 @@ unfolding lent
 returns c =
     let start = c.before.before.before.before.before.before.before.before.before.before.before.before.before.before.before.before.before.before.before.before.before.before.before.before in
     puts_parts (book_parts (given start) _ _ start.requires.0.marked) c.before.before.before.before.before.before.before.before.before.before.before.before.before.before.put-atoms.ensures c.before.before.before.before.before.before.before.before.before.before.put-defined.ensures
-    (puts_then c.before.before.before.before.before.before.put-rows.ensures c.before.before.put-claim.ensures)
+    (puts_then c.before.before.before.before.before.before.put-rows.ensures (rw start.requires.0.grouped at c.before.before.put-claim.ensures))
 
 pub put-book-spec : {M : Type 1} → statement M
 put-book-spec =

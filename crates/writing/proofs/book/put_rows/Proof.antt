@@ -11,7 +11,7 @@ put-rules-requires c κs =
     let start = c.before.before.before.before.before.before in
     let a = start.args in
     let long = parts_length (rows_parts a.rules.now a.literals.now a.clauses.now a.loads.now a.load-literals.now a.minutes.now) in
-    (start.requires.0, omega (arith, start.requires.1.1.1))
+    (start.requires.0.0, (start.requires.0.1, omega (arith, start.requires.1.1.1)))
 
 put-clauses-requires : tie.Need-put-clauses-requires
 put-clauses-requires c κs =

@@ -4,6 +4,7 @@ use native.Mathlib.Omega.{arith}
 use lib.ListN.{length}
 use borrow.Author.Rules.{rules}
 use Rattle.tables.specs.Sound.{Tables, lent}
+use Rattle.writing.proofs.Ready.{levels_few}
 use Rattle.writing.proofs.TextLaws.{parts_length, atoms_parts, book_length}
 use Rattle.writing.proofs.lengths.book_length.Statement.{statement}
 use Rattle.writing.proofs.lengths.book_length.Tie as tie
@@ -43,16 +44,20 @@ claim-length-requires : tie.Need-claim-length-requires
 unfolding lent
 claim-length-requires c κs =
     let start = c.before.before.before.before.before.before.before.before.before.before in
-    (omega (arith, start.requires.0.levelled), omega (arith, start.requires.0.few), omega arith)
+    (omega (arith, start.requires.0.few), levels_few start.requires.0)
 
 add-result-3 : tie.Need-overflow-add-result-3
-add-result-3 c = search rules
+unfolding lent
+add-result-3 c =
+    let start = c.before.before.before.before.before.before.before.before.before.before.before in
+    let claimed = (c.claim-length.ensures _ start.requires.0.levelled).few in
+    omega (arith, claimed)
 
 returns : tie.Need-returns
 unfolding lent
 returns c =
     let start = c.before.before.before.before.before.before.before.before.before.before.before in
-    omega (arith, book_length (given start) start.args.values.now start.args.levels.now start.requires.0.marked, parts_length (atoms_parts (length start.args.values.now)), c.before.before.before.width.ensures.0, c.before.before.defined-length.ensures.is, c.before.rows-length.ensures.is, c.claim-length.ensures.is)
+    omega (arith, book_length (given start) start.args.values.now start.args.levels.now start.requires.0.marked, parts_length (atoms_parts (length start.args.values.now)), c.before.before.before.width.ensures.0, c.before.before.defined-length.ensures.is, c.before.rows-length.ensures.is, (c.claim-length.ensures _ start.requires.0.levelled).is)
 
 pub book-length-spec : {M : Type 1} → statement M
 book-length-spec =

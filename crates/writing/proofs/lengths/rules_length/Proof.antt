@@ -1,4 +1,4 @@
--- `writing::lengths::rules_length` meets its contract: the lines of the rows passed are in the total.
+-- `writing::lengths::rules_length` meets its contract: the lines of the rows passed are in the total, which is that of the lines by rising group.
 -- Assumes nothing.
 use Prim.Native.Nat.{◌-◌}
 use native.Mathlib.Omega.{arith}
@@ -6,8 +6,8 @@ use borrow.Author.Rules.{rules}
 use Rattle.tables.specs.Rows.{rule_count}
 use Rattle.writing.specs.internal.Parts.{rule_line}
 use Rattle.writing.specs.internal.Counting.{max_line}
-use Rattle.writing.proofs.RowLaws.{rules_joined}
-use Rattle.writing.proofs.LengthLaws.{Adding, adding_start, adding_turn, lines_counted}
+use Rattle.writing.proofs.RowLaws.{rules_long}
+use Rattle.writing.proofs.LengthLaws.{Adding, adding_start, adding_turn, reordered_counted}
 use Rattle.writing.proofs.lengths.rules_length.Statement.{statement}
 use Rattle.writing.proofs.lengths.rules_length.Tie as tie
 
@@ -45,7 +45,7 @@ returns : tie.Need-returns invariant-loop decreases-loop
 unfolding rule_count
 returns c =
     let start = c.before.before.before.before.before in
-    lines_counted _ _ _ _ _ (rules_joined _ _) c.before.before.rule-count.ensures (omega (arith, start.requires.1)) (omega arith) c.before.loop.invariant
+    reordered_counted _ _ _ _ _ (rules_long _ _) c.before.before.rule-count.ensures (omega (arith, start.requires.1)) (omega arith) c.before.loop.invariant
 
 pub rules-length-spec : {M : Type 1} → statement M
 rules-length-spec =
