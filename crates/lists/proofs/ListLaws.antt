@@ -38,7 +38,7 @@ module _ {A B : Type 0} (f : A → B) (before : List B) (from : ℕ) (xs : List 
       let here : place ≡ from + length (map f xs) = omega (arith, length-map xs f) in
       rw (map-append f xs (x ∷ []), ← sets_behind before (map f xs) (f x ∷ []) from place here, ← e) s
 
--- A loop over parts has come to `next`: it has read some, counted them and tested them; 𝓛 says of them what was stored.
+-- A loop over parts has come to `next`: it has read some, counted them and tested them; W says of them what was stored.
 module _ {A : Type 0} where
   pub record PartsRead (item : List ℕ → Reading A) (within : A → Bool) (ordered : List A → Bool) (text : List ℕ) (at next count : ℕ) (fine rise : Bool) (W : List A → Type 0) : Type 0 where
     pub xs : List A
