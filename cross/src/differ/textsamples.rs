@@ -43,15 +43,15 @@ fn texts_in(source: &str) -> Result<Vec<Vec<u8>>, String> {
     Ok(texts)
 }
 
-/// After the name of what is shown stands the whole text, or its pieces, and after a piece that repeats how many times it does.
+/// After the handle that prints and the name of what is shown stands the whole text, or its pieces, and after a piece that repeats how many times it does.
 fn text_of(call: &str, arguments: &[Argument]) -> Option<Vec<u8>> {
     use Argument::{Bytes, Number};
     match (call, arguments) {
-        ("text" | "five" | "long", [_, Bytes(text)]) | ("lent", [_, Bytes(text), _]) => Some(text.clone()),
-        ("repeated", [_, Bytes(beginning), Bytes(piece), Number(times), Bytes(end)]) => {
+        ("text" | "five" | "long", [_, _, Bytes(text)]) | ("lent", [_, _, Bytes(text), _]) => Some(text.clone()),
+        ("repeated", [_, _, Bytes(beginning), Bytes(piece), Number(times), Bytes(end)]) => {
             Some([beginning.clone(), piece.repeat(*times), end.clone()].concat())
         }
-        ("built", [_, Bytes(beginning), Bytes(piece), Number(times), Bytes(other), Number(other_times), Bytes(end)]) => {
+        ("built", [_, _, Bytes(beginning), Bytes(piece), Number(times), Bytes(other), Number(other_times), Bytes(end)]) => {
             Some([beginning.clone(), piece.repeat(*times), other.repeat(*other_times), end.clone()].concat())
         }
         _ => None,
@@ -115,11 +115,11 @@ fn escaped(rest: &mut Chars) -> Result<u8, String> {
 mod tests {
     use super::*;
 
-    const CLAIM: &str = r#"show_text(b"a name", b"(atoms 0)\n(claim)\n");"#;
-    const OPEN: &str = r#"show_text(b"a name", b"(atoms 0)\n(open)\n");"#;
+    const CLAIM: &str = r#"show_text(rt, b"a name", b"(atoms 0)\n(claim)\n");"#;
+    const OPEN: &str = r#"show_text(rt, b"a name", b"(atoms 0)\n(open)\n");"#;
 
     fn strings(source: &str) -> Result<Vec<Vec<u8>>, String> {
-        texts_in(&format!("show_text(b\"a name\", {source});"))
+        texts_in(&format!("show_text(rt, b\"a name\", {source});"))
     }
 
     #[test]
@@ -137,20 +137,21 @@ mod tests {
             use super::texts::show_text;
             // What show_text does.
             fn show_text(name: &[u8], text: &[u8]) { show_name(name); show_number(b" atoms ", number(text)); }
-            show_text(name, &buffer[0..length]);
+            show_text(rt, name, &buffer[0..length]);
             show_text(
+                rt,
                 b"a name",
                 b"whole",
             );
-            show_lent(name, b"lent", short);
-            show_lent(b"a name", b"lent too", 9);
-            show_five(b"a name", b"five");
-            show_long(b"a name", b"long");
-            show_claim(b"a name", 3);
-            show_repeated(b"a name", b"<", b"ab", 3, b">");
-            show_repeated(name, b"<", b"ab", times, b">");
-            show_built(b"a name", b"<", b"ab", 2, b"c", 0, b">");
-            show_built(name, beginning, piece, times, b"", 0, end);
+            show_lent(rt, name, b"lent", short);
+            show_lent(rt, b"a name", b"lent too", 9);
+            show_five(rt, b"a name", b"five");
+            show_long(rt, b"a name", b"long");
+            show_claim(rt, b"a name", 3);
+            show_repeated(rt, b"a name", b"<", b"ab", 3, b">");
+            show_repeated(rt, name, b"<", b"ab", times, b">");
+            show_built(rt, b"a name", b"<", b"ab", 2, b"c", 0, b">");
+            show_built(rt, name, beginning, piece, times, b"", 0, end);
         "#;
         let texts = ["whole", "lent", "lent too", "five", "long", "<ababab>", "<abab>"];
         assert_eq!(texts_in(source), Ok(texts.map(|text| text.as_bytes().to_vec()).to_vec()));
