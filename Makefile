@@ -4,7 +4,7 @@
 # make examples                the examples in C, build/display, build/edit and build/hover
 # make install [PREFIX=dir]    programs, library, header, pkg-config file, manual pages and documents; DESTDIR=dir stages them
 # make uninstall [PREFIX=dir]  removes what was installed
-# make test                    proves everything from nothing and runs all tests
+# make test                    proves everything that was not proved here before and runs all tests
 # make cross [SEED= COUNT=]    library and program against solvers in Rust
 # make bench [QUICK=1]         times of the C calls against a fast version in Rust
 # make clean                   removes what was built; what was proved stays, in crates/*/out/
