@@ -1,15 +1,15 @@
 -- Laws of the loops beside following the index: over the atoms, of which the unfounded ones become false, and over a part of a queue whose atoms
 -- get their level.
 -- Assumes nothing.
-use Prim.Native.Nat.{ℕ, ◌+◌, ◌*◌, ◌≤◌, ◌<◌}
-use mathlib.Core.Path.{◌≡◌, refl, sym, ap, subst, ◌∙◌}
+use Prim.Native.Nat.{ℕ, ◌+◌, ◌-◌, ◌*◌, ◌≤◌, ◌<◌}
+use mathlib.Core.Path.{◌≡◌, refl, sym, ap, ◌∙◌}
 use mathlib.Core.Logic.{◌⊎◌, inl, inr, ⊎_elim}
 use mathlib.Core.Bool.{Bool, true, false, not, cond, ◌&&◌, ◌||◌}
 use mathlib.Core.List.{List}
 use native.Mathlib.Omega.{arith}
 use lib.Dec.{eqb, ltb}
-use lib.ListN.{length, get_or, set, length-set}
-use lib.Seq.{ext_get_or, get_or-set_same, get_or-set_other}
+use lib.ListN.{length, get_or, set, take, drop, length-set}
+use lib.Seq.{ext_get_or, get_or-take, get_or-drop, get_or-set_same, get_or-set_other}
 use borrow.Author.Tests.{eqb-true, eqb-false, eq-eqb, ne_eqb, lt-ltb, le-ltb, not-true}
 use Rattle.wellfounded.specs.Literals.{is_true, is_held, value_at}
 use Rattle.wellfounded.specs.internal.Tallies.{tally}
@@ -78,11 +78,7 @@ module _ {founded values queue : List ℕ} {end : ℕ} (p : Unfoundable founded 
     fits : Pushable n values' queue' end'
     fits = record { below = l; small = rw long p.small; room = omega (arith, p.room, so.queued.room, so.queued.long) }
 
-    -- The next atom can be decided,
-    pub unfounded_next : (n < length founded) × Pushable n values' queue' end'
-    unfounded_next = (omega (arith, long, p.marks), fits)
-
-    -- and so they go on.
+    -- From one atom to the next they go on.
     pub unfounded_turn :
         {values'' queue'' : List ℕ} {end'' : ℕ} →
         Pushes (not (is_marked founded n) && not (is_held (value_at values' n))) 0 n values' queue' end' values'' queue'' end'' →
@@ -166,11 +162,6 @@ unfounded_end {founded} {values} {queue} {end} {n} {values'} {queue'} {end'} las
         decide_at 0 (unfounded_below founded n) values a l
         ∙ rw (lt-ltb a n (omega (arith, ap length so.decides, decide_length 0 (unfounded_below founded n) values))) refl
 
--- The values stay as many.
-pub unfounded_long :
-    {founded values queue : List ℕ} {end n : ℕ} {values' queue' : List ℕ} {end' : ℕ} → BelowDecided founded values queue end n values' queue' end' → length values' ≡ length values
-unfounded_long {founded} {values} {queue} {end} {n} so = ap length so.decides ∙ decide_length 0 (unfounded_below founded n) values
-
 -- ── Levels of a part of a queue ──
 
 -- The code's test of an atom.
@@ -180,21 +171,14 @@ pub renews_is :
     ≡ (is_true (value_at values atom) && not (eqb (get_or starts (2 * atom + 1) 0) (get_or starts (2 * atom + 2) 0)))
 renews_is values starts atom l = rw (true_at values atom l) refl
 
+-- An atom of the part is one of the queue.
+pub queued_at : (queue : List ℕ) (from end i : ℕ) → from + i < end → get_or (take (end - from) (drop from queue)) i 0 ≡ get_or queue (from + i) 0
+queued_at queue from end i l = get_or-take (end - from) (drop from queue) i 0 (omega arith) ∙ get_or-drop from queue i 0
+
 module _ {queue : List ℕ} {from end : ℕ} {values starts levels : List ℕ} (p : Notable queue from end values starts levels) (level : ℕ) where
-  pub noted_start : Noted queue from from level values starts levels levels false
-  noted_start =
-      record {
-        long = refl;
-        gives = λ a l. rw (le-ltb (tally queue from a) (tally queue from a) (omega arith)) refl;
-        quiet = λ e i low high t. absurd (omega arith);
-      }
-
   module _ {i : ℕ} {levels' : List ℕ} {due : Bool} (l : i < end) (first : from ≤ i) (so : Noted queue from i level values starts levels levels' due) where
-    -- The next atom has a value, a level and starts,
-    pub noted_next : (get_or queue i 0 < length values) × (length starts ≡ 2 * length values + 1) × (length values ≤ 65535)
-    noted_next = (p.known i l, p.starts_long, p.small)
-
-    pub noted_within : get_or queue i 0 < length levels'
+    -- The next atom has a level,
+    noted_within : get_or queue i 0 < length levels'
     noted_within = omega (arith, p.known i l, p.levels_long, so.long)
 
     -- and so they go on.
@@ -227,9 +211,3 @@ module _ {queue : List ℕ} {from end : ℕ} {values starts levels : List ℕ} (
         later j low high t none (inl behind) =
             let same : j ≡ i = omega arith in
             rw same (eqb-true _ _ (not_lacking (is_true (value_at values (get_or queue i 0))) _ (sym is ∙ none.1) (rw same at t)))
-
-pub noted_end :
-    {queue : List ℕ} {from end level i : ℕ} {values starts levels levels' : List ℕ} {due : Bool} → end ≤ i → i ≤ end →
-    Noted queue from i level values starts levels levels' due → Noted queue from end level values starts levels levels' due
-noted_end {queue} {from} {end} {level} {i} {values} {starts} {levels} {levels'} {due} low high so =
-    subst (λ (x : ℕ). Noted queue from x level values starts levels levels' due) (omega arith) so

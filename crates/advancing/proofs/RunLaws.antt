@@ -1,13 +1,12 @@
 -- Laws of all rounds that follow the index: how they start, go on and end.
 -- Assumes nothing.
-use Prim.Native.Nat.{ℕ, suc, ◌+◌, ◌*◌, ◌-◌, ◌≤◌, ◌<◌}
+use Prim.Native.Nat.{ℕ, suc, ◌+◌, ◌*◌, ◌≤◌, ◌<◌}
 use mathlib.Core.Path.{◌≡◌, refl, sym, ap, ◌∙◌}
 use mathlib.Core.Bool.{Bool, true, false, cond}
 use mathlib.Core.List.{List}
 use native.Mathlib.Numerals.{add-one}
 use native.Mathlib.Omega.{arith}
-use lib.ListN.{length, take, replicate}
-use lib.Seq.{length-take-le}
+use lib.ListN.{length, replicate}
 use Rattle.wellfounded.specs.Lists.{count}
 use Rattle.wellfounded.specs.Definitions.{Definition}
 use Rattle.wellfounded.specs.Stages.{stage}
@@ -126,10 +125,6 @@ pub run_clears :
 run_clears start done e = front_done done.at done.done start.setting_long e
 
 -- ── The whole call ──
-
--- The front of an array has as many entries as were asked for.
-pub front_long : (n : ℕ) (entries : List ℕ) → n ≤ length entries → length (take (n - 0) entries) ≡ n
-front_long n entries l = let e : n - 0 ≡ n = omega arith in rw e (length-take-le n entries l)
 
 -- With stage 0 in the values and 0 in all levels the rounds can start.
 pub ready_start :

@@ -28,12 +28,10 @@ pub fn note_levels(
     ensures { Noted queue.now from end level values.now starts.now levels.old levels.new result }
 {
     let mut due = false;
-    let mut i = from;
-    while i < end {
-        let atom = queue[i] as usize;
+    for atom in &queue[from..end] {
+        let atom = *atom as usize;
         levels[atom] = level;
         due = due | renews(atom, values, starts);
-        i += 1;
     }
     due
 }

@@ -144,7 +144,7 @@ pub fn advance_stages(
         starts,
         entries,
         counts,
-        &mut founded[0..atoms],
+        &mut founded[..atoms],
         values,
         levels,
         work,

@@ -31,10 +31,8 @@ pub fn decide_unfounded(founded: &[u8], values: &mut [u8], queue: &mut [u16], en
     ensures { UnfoundedDecided founded.now values.old queue.old end values.new queue.new result }
 {
     let mut behind = end;
-    let mut atom = 0;
-    while atom < values.len() {
+    for atom in 0..values.len() {
         behind = decide_if_unfounded(atom, founded, values, queue, behind);
-        atom += 1;
     }
     behind
 }

@@ -6,10 +6,11 @@ use mathlib.Core.Bool.{Bool, true, false, cond}
 use mathlib.Core.List.{List, [], ◌∷◌, ◌++◌}
 use native.Mathlib.Omega.{arith}
 use lib.ListN.{length}
+use Rattle.std.specs.Prelude.{Result, Ok, Err}
 use Rattle.wellfounded.specs.Lists.{sum_below}
 use Rattle.wellfounded.proofs.Sums.{sum_front, sum_same}
 use Rattle.tables.specs.declared.Fault.{Fault}
-use Rattle.tables.specs.declared.Verdict.TheVariants.{Accepted}
+use Rattle.tables.specs.Faults.{accepted}
 use Rattle.tables.specs.Limits.{max_literals}
 use Rattle.tables.specs.Rows.{rule_count, rule_size, literals_by_rule}
 use Rattle.tables.specs.Sound.{lent}
@@ -17,13 +18,12 @@ use Rattle.tables.proofs.Faults.{refused_accepted}
 use Rattle.format.specs.declared.kinds.Kind.TheVariants.{Rule}
 use Rattle.format.specs.Forms.{Form}
 use Rattle.format.specs.Views.{view_of, of_kind}
+use Rattle.tables.specs.declared.Refusal.{Refusal}
 use Rattle.judging.specs.declared.reached.Reached.{Reached}
 use Rattle.judging.specs.declared.reached.Space.{Space}
-use Rattle.judging.specs.declared.reached.Judged.{Judged}
-use Rattle.judging.specs.declared.reached.Judged.TheVariants.{Passed, Failed}
 use Rattle.judging.specs.LentTables.{Table, Rules}
 use Rattle.judging.specs.States.{start, advanced, after, count_in}
-use Rattle.judging.specs.Judging.{judge_text, forms_of}
+use Rattle.judging.specs.Judging.{failed, judge_text, forms_of}
 use Rattle.judging.specs.Books.{after_all}
 use Rattle.judging.proofs.Counts.{counts_within_lem}
 use Rattle.judging.proofs.Accepted.{accepted_book}
@@ -76,13 +76,13 @@ forms_few s (f ∷ fs) = omega (arith, form_few s f (entries_from (after s f) fs
 -- ── Texts ──
 
 -- An accepted answer is that of a text that passed.
-pub answer_passed : (j : Judged) → (answer_of j).verdict ≡ Accepted → (s : Reached) × (j ≡ Passed s)
+pub answer_passed : (j : Result Reached Refusal) → (answer_of j).verdict ≡ accepted → (s : Reached) × (j ≡ Ok s)
 unfolding answer_of
-answer_passed (Passed s) e = (s, refl)
-answer_passed (Failed fault at) e = absurd (refused_accepted e)
+answer_passed (Ok s) e = (s, refl)
+answer_passed (Err why) e = absurd (refused_accepted e)
 
 -- The entries of a text that passed: no more literals than a table may have, and as many entries as were counted.
-module _ (space : Space) (text : List ℕ) (s : Reached) (passed : judge_text space text ≡ Passed s) where
+module _ (space : Space) (text : List ℕ) (s : Reached) (passed : judge_text space text ≡ Ok s) where
   pub passed_few_literals : literals_by_rule (book_entries (forms_of text) Rules) ≤ max_literals
   unfolding book_entries start
   passed_few_literals =
@@ -97,21 +97,21 @@ module _ (space : Space) (text : List ℕ) (s : Reached) (passed : judge_text sp
 
   -- So it is in the used parts of the tables that the text was read into.
   pub used_few_literals :
-      (held : Contents) → literals_by_rule (used_parts (answer_of (Passed s)) (filled (book_entries (forms_of text)) held) Rules) ≤ max_literals
+      (held : Contents) → literals_by_rule (used_parts (answer_of (Ok s)) (filled (book_entries (forms_of text)) held) Rules) ≤ max_literals
   unfolding given_anew
   used_few_literals held =
       let used = book_entries (forms_of text) in
       rw (used_part s used held passed_counts Rules (laid_used s used held passed_counts Rules refl)) passed_few_literals
 
 -- Of a refused text no part is used.
-pub unused_few_literals : (fault : Fault) (at : ℕ) (held : Contents) → literals_by_rule (used_parts (answer_of (Failed fault at)) held Rules) ≤ max_literals
+pub unused_few_literals : (fault : Fault) (at : ℕ) (held : Contents) → literals_by_rule (used_parts (answer_of (failed fault at)) held Rules) ≤ max_literals
 unfolding used_parts used_in answer_of
 unused_few_literals fault at held = omega (arith, no_rows)
 
 -- The bodies of a book that was read, counted by rule, have no more literals than a table may have, so that they do not keep it from having an
 -- index.
 pub read_few_literals :
-    {text : List ℕ} {held tables : Contents} {book : Book} → Reads text held book tables → book.verdict ≡ Accepted →
+    {text : List ℕ} {held tables : Contents} {book : Book} → Reads text held book tables → book.verdict ≡ accepted →
     literals_by_rule (tables_of book.atoms (used_parts book tables)).rules ≤ max_literals
 unfolding tables_of lent contents_after
 read_few_literals {text} {held} {tables} {book} r accepted =

@@ -13,7 +13,8 @@ use Rattle.format.specs.Views.{kind_in}
 use Rattle.judging.specs.declared.reached.Reached.{Reached}
 use Rattle.judging.specs.declared.reached.Space.{Space}
 use Rattle.judging.specs.LentTables.{Table, Rules, Literals, Clauses, Loads, LoadLiterals, Minutes, Marks, Values, Levels, room_in}
-use Rattle.judging.specs.States.{in_loads, start, after, values_counted, levels_counted, count_in}
+use Rattle.judging.specs.declared.reached.Phase.TheVariants.{InLoads}
+use Rattle.judging.specs.States.{rank, start, after, values_counted, levels_counted, count_in}
 use Rattle.judging.specs.Judging.{parts_in_order}
 use Rattle.judging.specs.Books.{after_all, passes, all_pass, IsBook}
 use Rattle.judging.proofs.TableLaws.{each_table, room_with, start_count}
@@ -88,24 +89,24 @@ no_entries_lem : {A : Type 0} (xs : List A) → length xs ≡ 0 → xs ≡ []
 no_entries_lem [] e = refl
 no_entries_lem (x ∷ xs) e = absurd (omega arith)
 
-no_values : (s : Reached) (f : Form) → parts_in_order s f ≡ true → (after s f).phase ≤ in_loads → entries_of s f Values ≡ []
+no_values : (s : Reached) (f : Form) → parts_in_order s f ≡ true → rank (after s f).phase ≤ rank InLoads → entries_of s f Values ≡ []
 unfolding entries_of
 no_values s f o l = no_entries_lem _ (values_added s f o ∙ values_early (after s f) (omega arith))
 
-no_levels : (s : Reached) (f : Form) → parts_in_order s f ≡ true → (after s f).phase ≤ in_loads → entries_of s f Levels ≡ []
+no_levels : (s : Reached) (f : Form) → parts_in_order s f ≡ true → rank (after s f).phase ≤ rank InLoads → entries_of s f Levels ≡ []
 unfolding entries_of
 no_levels s f o l = no_entries_lem _ (levels_added s f o ∙ levels_early (after s f) (omega arith))
 
 -- So the last form alone gives them, if the forms pass.
 module _ (space : Space) (f : Form) where
-  early : (s : Reached) (before : List Form) → all_pass space s (before ++ (f ∷ [])) ≡ true → s.phase ≤ in_loads
+  early : (s : Reached) (before : List Form) → all_pass space s (before ++ (f ∷ [])) ≡ true → rank s.phase ≤ rank InLoads
   unfolding all_pass
   early s [] p = (may_follow_lem (kind_in f) s.phase (passing space s f (first (passes space s f) _ p)).follows).early
   early s (g ∷ before) p = (may_follow_lem (kind_in g) s.phase (passing space s g (first (passes space s g) _ p)).follows).early
 
   last_given :
       (table : Table) → given_anew table ≡ true →
-      ((s : Reached) (g : Form) → parts_in_order s g ≡ true → (after s g).phase ≤ in_loads → entries_of s g table ≡ []) →
+      ((s : Reached) (g : Form) → parts_in_order s g ≡ true → rank (after s g).phase ≤ rank InLoads → entries_of s g table ≡ []) →
       (s : Reached) (before : List Form) → all_pass space s (before ++ (f ∷ [])) ≡ true →
       entries_from s (before ++ (f ∷ [])) table ≡ entries_of (after_all s before) f table
   unfolding all_pass entries_from joined joined_by after_all over

@@ -10,6 +10,7 @@ use native.Mathlib.Omega.{arith}
 use lib.Dec.{eqb, ltb}
 use lib.ListN.{length, get_or}
 use borrow.Author.Tests.{eqb-true, eq-eqb, ne_eqb, ltb-true}
+use Rattle.std.specs.Prelude.{Ok}
 use Rattle.wellfounded.specs.Lists.{all, any}
 use Rattle.wellfounded.proofs.Tests.{both, first, second}
 use Rattle.wellfounded.proofs.Lists.{any_use, any_make, all_use, get_d_tabulate, get_or_tabulate_beyond, le_or_lt}
@@ -19,9 +20,9 @@ use Rattle.format.specs.Views.{view_of, kind_number, same_kind, of_kind, kind_in
 use Rattle.items.specs.Items.{level_columns}
 use Rattle.judging.specs.declared.reached.Reached.{Reached}
 use Rattle.judging.specs.declared.reached.Space.{Space}
-use Rattle.judging.specs.declared.reached.Judged.TheVariants.{Passed}
 use Rattle.judging.specs.LentTables.{Marks, Values, Levels}
-use Rattle.judging.specs.States.{nothing_yet, open_stood, start, advanced, after, groups_reached}
+use Rattle.judging.specs.declared.reached.Phase.TheVariants.{NothingYet, OpenStood}
+use Rattle.judging.specs.States.{rank, start, advanced, after, groups_reached}
 use Rattle.judging.specs.Judging.{atom_bound, numbers_within, may_follow, rises_from, parts_in_order, in_order, judge_text, forms_of}
 use Rattle.judging.specs.Books.{after_all, IsBook, all_pass}
 use Rattle.judging.proofs.StateLaws.{groups_after}
@@ -95,20 +96,20 @@ book_marks : (space : Space) (fs : List Form) → IsBook space fs → OnesExactl
 unfolding atom_bound
 book_marks space fs book =
     let end = after_all start fs in
-    let stood : open_stood ≤ end.phase = (book_passed space fs book).1 in
-    let bound : atom_bound end ≡ end.size = rw (ne_eqb end.phase nothing_yet (λ z. omega arith)) in
+    let stood : rank OpenStood ≤ rank end.phase = (book_passed space fs book).1 in
+    let bound : atom_bound end ≡ end.size = rw (ne_eqb (rank end.phase) (rank NothingYet) (λ z. omega arith)) in
     rw (marks_decode fs book.sequence) (ones_exactly end.size (declared_in fs) (rw bound at (all_declared_below end fs book.numbers)))
 
 -- Every accepted text gives N marks, 1 exactly at the atoms that it declares defined.
 pub mark_entries :
-    (space : Space) (text : List ℕ) (s : Reached) → judge_text space text ≡ Passed s →
+    (space : Space) (text : List ℕ) (s : Reached) → judge_text space text ≡ Ok s →
     OnesExactly s.size (declared_in (forms_of text)) (book_entries (forms_of text) Marks)
 mark_entries space text s e = let k = accepted_book space text s e in rw (k.2, k.3) (book_marks space k.0 k.1.book)
 
 -- ── Values and levels ──
 
 -- An accepted text: its forms pass, and the last is its state form.
-module _ (space : Space) (text : List ℕ) (s : Reached) (e : judge_text space text ≡ Passed s) (before : List Form) where
+module _ (space : Space) (text : List ℕ) (s : Reached) (e : judge_text space text ≡ Ok s) (before : List Form) where
   module _ (f : Form) (ends : forms_of text ≡ before ++ (f ∷ [])) where
     forms_pass : all_pass space start (before ++ (f ∷ [])) ≡ true
     forms_pass =

@@ -5,13 +5,14 @@ use mathlib.Core.Path.{◌≡◌, refl, ap}
 use mathlib.Core.List.{List, ◌∷◌, ◌++◌}
 use native.Mathlib.Omega.{arith}
 use lib.ListN.{length, length-append}
+use Rattle.std.specs.Prelude.{Result, Ok, Err}
 use Rattle.tables.specs.declared.Fault.{Fault}
 use Rattle.tables.specs.Limits.{max_position}
 use Rattle.tables.specs.Faults.{position_of}
 use Rattle.format.specs.Forms.{line_end, render, render_all}
+use Rattle.tables.specs.declared.Refusal.{Refusal}
+use Rattle.judging.specs.declared.reached.Reached.{Reached}
 use Rattle.judging.specs.declared.reached.Space.{Space}
-use Rattle.judging.specs.declared.reached.Judged.{Judged}
-use Rattle.judging.specs.declared.reached.Judged.TheVariants.{Passed, Failed}
 use Rattle.judging.specs.Judging.{judge_text}
 use Rattle.judging.specs.Books.{FirstRefused, too_long, no_form, not_passing, no_state}
 use Rattle.judging.proofs.Refusals.{refused_first}
@@ -32,6 +33,6 @@ pub text_position : (space : Space) (text : List ℕ) → position_of (answer_of
 unfolding answer_of
 text_position space text = step (judge_text space text) refl
   where
-    step : (j : Judged) → judge_text space text ≡ j → position_of (answer_of j).verdict ≤ max_position
-    step (Passed s) e = omega arith
-    step (Failed fault at) e = first_position space text fault at (refused_first space text fault at e)
+    step : (j : Result Reached Refusal) → judge_text space text ≡ j → position_of (answer_of j).verdict ≤ max_position
+    step (Ok s) e = omega arith
+    step (Err why) e = first_position space text why.fault why.position (refused_first space text why.fault why.position e)

@@ -5,10 +5,11 @@ use mathlib.Core.Path.{◌≡◌, refl, sym, ◌∙◌}
 use mathlib.Core.Bool.{false}
 use native.Mathlib.Omega.{arith}
 use lib.ListN.{length}
+use Rattle.std.specs.Prelude.{Ok}
 use Rattle.judging.specs.declared.reached.Reached.{Reached}
-use Rattle.judging.specs.declared.reached.Judged.TheVariants.{Passed}
 use Rattle.judging.specs.LentTables.{Table, Rules, Literals, Clauses, Loads, LoadLiterals, Minutes, Marks, Values, Levels}
-use Rattle.judging.specs.States.{open_stood, claim_stood, groups_reached, count_in}
+use Rattle.judging.specs.declared.reached.Phase.TheVariants.{OpenStood, ClaimStood}
+use Rattle.judging.specs.States.{rank, groups_reached, count_in}
 use Rattle.judging.proofs.StateLaws.{values_told, levels_told}
 use Rattle.forms.specs.Contents.{Contents, filled}
 use Rattle.forms.specs.Entries.{given_anew}
@@ -28,21 +29,21 @@ one_level s = rw (one_group_read s) (omega arith)
 -- The used parts of filled tables are the entries.
 module _ (s : Reached) (used held : Contents) (counts : (table : Table) → length (used table) ≡ count_in s table) where
   pub used_part :
-      (table : Table) → used_in (answer_of (Passed s)) table ≡ count_in s table →
-      used_parts (answer_of (Passed s)) (filled used held) table ≡ used table
+      (table : Table) → used_in (answer_of (Ok s)) table ≡ count_in s table →
+      used_parts (answer_of (Ok s)) (filled used held) table ≡ used table
   unfolding used_parts filled
   used_part table e = over_front (used table) (held table) _ (counts table ∙ sym e)
 
   -- Of the tables that entries are laid down in, what is counted is used.
-  pub laid_used : (table : Table) → given_anew table ≡ false → used_in (answer_of (Passed s)) table ≡ count_in s table
+  pub laid_used : (table : Table) → given_anew table ≡ false → used_in (answer_of (Ok s)) table ≡ count_in s table
   unfolding used_in answer_of count_in
-  laid_used = each_laid (λ table. used_in (answer_of (Passed s)) table ≡ count_in s table) refl refl refl refl refl refl
+  laid_used = each_laid (λ table. used_in (answer_of (Ok s)) table ≡ count_in s table) refl refl refl refl refl refl
 
-  pub used_marks : open_stood ≤ s.phase → used_parts (answer_of (Passed s)) (filled used held) Marks ≡ used Marks
+  pub used_marks : rank OpenStood ≤ rank s.phase → used_parts (answer_of (Ok s)) (filled used held) Marks ≡ used Marks
   unfolding used_in answer_of count_in
   used_marks e = used_part Marks (sym (values_told s e))
 
-  pub used_tables : open_stood ≤ s.phase → tables_of s.size (used_parts (answer_of (Passed s)) (filled used held)) ≡ tables_of s.size used
+  pub used_tables : rank OpenStood ≤ rank s.phase → tables_of s.size (used_parts (answer_of (Ok s)) (filled used held)) ≡ tables_of s.size used
   unfolding tables_of given_anew
   used_tables e =
       rw (
@@ -55,10 +56,10 @@ module _ (s : Reached) (used held : Contents) (counts : (table : Table) → leng
         used_marks e,
       )
 
-  pub used_values : open_stood ≤ s.phase → used_parts (answer_of (Passed s)) (filled used held) Values ≡ used Values
+  pub used_values : rank OpenStood ≤ rank s.phase → used_parts (answer_of (Ok s)) (filled used held) Values ≡ used Values
   unfolding used_in answer_of count_in
   used_values e = used_part Values (sym (values_told s e))
 
-  pub used_levels : claim_stood ≤ s.phase → used_parts (answer_of (Passed s)) (filled used held) Levels ≡ used Levels
+  pub used_levels : rank ClaimStood ≤ rank s.phase → used_parts (answer_of (Ok s)) (filled used held) Levels ≡ used Levels
   unfolding used_in answer_of count_in
   used_levels e = used_part Levels (one_level s ∙ sym (levels_told s e))

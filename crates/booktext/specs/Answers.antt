@@ -1,12 +1,13 @@
 -- What the reader answers, and what it leaves in the lent tables.
-use Rattle.std.specs.Prelude.{ℕ, ◌≡◌, cond, List, eqb, length}
-use Rattle.tables.specs.declared.Verdict.TheVariants.{Accepted, Refused}
+use Rattle.std.specs.Prelude.{ℕ, ◌≡◌, List, length, Result, Ok, Err}
+use Rattle.tables.specs.Faults.{accepted}
 use Rattle.format.specs.Forms.{Form}
+use Rattle.tables.specs.declared.Refusal.{Refusal}
+use Rattle.judging.specs.declared.reached.Reached.{Reached}
 use Rattle.judging.specs.declared.reached.Space.{Space}
-use Rattle.judging.specs.declared.reached.Judged.{Judged}
-use Rattle.judging.specs.declared.reached.Judged.TheVariants.{Passed, Failed}
 use Rattle.judging.specs.Judging.{judge_text, forms_of}
-use Rattle.judging.specs.States.{open_stood, claim_stood}
+use Rattle.judging.specs.declared.reached.Phase.{Phase}
+use Rattle.judging.specs.declared.reached.Phase.TheVariants.{OpenStood, ClaimStood}
 use Rattle.judging.specs.LentTables.{space_with}
 use Rattle.forms.specs.Contents.{Contents, filled}
 use Rattle.forms.specs.Entries.{book_entries}
@@ -19,8 +20,10 @@ unfoldable pub space_of : Contents → Space
 space_of held = space_with (λ table. length (held table))
 
 -- The state form that a text has ended with, and the number by which C is told each.
-unfoldable pub state_of : ℕ → StateForm
-state_of phase = cond (eqb phase open_stood) OpenState (cond (eqb phase claim_stood) ClaimState NoState)
+unfoldable pub state_of : Phase → StateForm
+state_of OpenStood = OpenState
+state_of ClaimStood = ClaimState
+state_of phase = NoState
 
 abbrev pub state_number : StateForm → ℕ
 state_number NoState = 0
@@ -28,10 +31,10 @@ state_number OpenState = 1
 state_number ClaimState = 2
 
 -- N and the entries used in each table, as single numbers. A refused text answers them as 0, and no state form.
-unfoldable pub answer_of : Judged → Book
-answer_of (Passed s) =
+unfoldable pub answer_of : Result Reached Refusal → Book
+answer_of (Ok s) =
     record {
-      verdict = Accepted;
+      verdict = accepted;
       atoms = s.size;
       rules = s.rules;
       literals = s.literals;
@@ -40,13 +43,13 @@ answer_of (Passed s) =
       terms = s.terms;
       state = state_of s.phase;
     }
-answer_of (Failed fault at) =
-    record { verdict = Refused fault at; atoms = 0; rules = 0; literals = 0; clauses = 0; loads = 0; terms = 0; state = NoState }
+answer_of (Err why) =
+    record { verdict = Err why; atoms = 0; rules = 0; literals = 0; clauses = 0; loads = 0; terms = 0; state = NoState }
 
 -- The tables of an accepted text are filled; a refused text writes nothing.
-unfoldable pub contents_after : Judged → List Form → Contents → Contents
-contents_after (Passed s) forms held = filled (book_entries forms) held
-contents_after (Failed fault at) forms held = held
+unfoldable pub contents_after : Result Reached Refusal → List Form → Contents → Contents
+contents_after (Ok s) forms held = filled (book_entries forms) held
+contents_after (Err why) forms held = held
 
 -- What `read` promises of its answer and of the tables afterwards.
 pub record Reads (text : List ℕ) (before : Contents) (answer : Book) (afterwards : Contents) : Type 0 where

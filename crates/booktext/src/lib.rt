@@ -1,16 +1,15 @@
 // The reader of book texts.
 #![tactic(auto)]
 
-ghost use Rattle.std.specs.Prelude.{◌≡◌};
-ghost use Rattle.judging.specs.declared.reached.Judged.TheVariants.{Failed};
+ghost use Rattle.std.specs.Prelude.{◌≡◌, Err};
 ghost use Rattle.forms.specs.Contents.{lent_tables};
 ghost use Rattle.booktext.specs.Answers.{state_number, state_of, answer_of, Reads};
 
-use judging::reached::{CLAIM_STOOD, Judged, OPEN_STOOD, Space};
+use judging::reached::{Phase, Reached, Space};
 use lines::{judge, walk};
-use tables::{Fault, Verdict};
+use tables::{Refusal, Verdict};
 
-// Which state form a text ended with.
+// Which state form a text ended with. No Option of a form, as C is told one of three.
 #[derive(Drop)]
 pub enum StateForm {
     NoState,
@@ -18,7 +17,8 @@ pub enum StateForm {
     ClaimState,
 }
 
-// The verdict, N, the entries used in each table, and the state form.
+// The verdict, N, the entries used in each table, and the state form. The C interface tells all of them of a refused text too, as 0, so they stand
+// beside the verdict and not in its `Ok`.
 #[derive(Drop)]
 pub struct Book {
     pub verdict: Verdict,
@@ -43,11 +43,11 @@ pub fn state_number(state: StateForm) -> usize
 }
 
 // The answer for a refused text: nothing counted, no state form.
-fn refused_book(fault: Fault, position: usize) -> Book
-    ensures { result ≡ answer_of (Failed fault position) }
+fn refused_book(refusal: Refusal) -> Book
+    ensures { result ≡ answer_of (Err refusal) }
 {
     Book {
-        verdict: Verdict::Refused(fault, position),
+        verdict: Err(refusal),
         atoms: 0,
         rules: 0,
         literals: 0,
@@ -59,26 +59,24 @@ fn refused_book(fault: Fault, position: usize) -> Book
 }
 
 // The state form that a text has ended with.
-fn state_of(phase: usize) -> StateForm
+fn state_of(phase: Phase) -> StateForm
     ensures { result ≡ state_of phase }
 {
-    if phase == OPEN_STOOD {
-        return StateForm::OpenState;
+    match phase {
+        Phase::OpenStood => StateForm::OpenState,
+        Phase::ClaimStood => StateForm::ClaimState,
+        _ => StateForm::NoState,
     }
-    if phase == CLAIM_STOOD {
-        return StateForm::ClaimState;
-    }
-    StateForm::NoState
 }
 
 // The answer for what a text has come to.
-pub fn answer_of(judged: Judged) -> Book
+pub fn answer_of(judged: Result<Reached, Refusal>) -> Book
     ensures { result ≡ answer_of judged }
 {
     match judged {
-        Judged::Failed(fault, position) => refused_book(fault, position),
-        Judged::Passed(reached) => Book {
-            verdict: Verdict::Accepted,
+        Err(refusal) => refused_book(refusal),
+        Ok(reached) => Book {
+            verdict: Ok(()),
             atoms: reached.size,
             rules: reached.rules,
             literals: reached.literals,
@@ -121,8 +119,8 @@ pub fn read(
         values: values.len(),
         levels: levels.len(),
     };
-    if let Judged::Failed(fault, position) = judge(text, space) {
-        return refused_book(fault, position);
+    if let Err(refusal) = judge(text, space) {
+        return refused_book(refusal);
     }
     answer_of(walk(
         text,

@@ -1,20 +1,21 @@
 -- Laws of the answers for C: how large a packed verdict and a reader's counts are, and the seven counts in their places.
 -- Assumes nothing.
 use Prim.Native.Nat.{ℕ, ◌+◌, ◌*◌, ◌≤◌, ◌<◌}
-use mathlib.Core.Path.{◌≡◌, refl}
+use mathlib.Core.Path.{◌≡◌, refl, sym, ap, ◌∙◌}
 use mathlib.Core.List.{List, [], ◌∷◌}
 use native.Mathlib.Omega.{arith}
 use lib.ListN.{length, set}
 use borrow.Author.Tests.{eq-eqb, ne_eqb}
-use Rattle.tables.specs.declared.Verdict.{Verdict}
+use Rattle.std.specs.Prelude.{Result, Ok, Err}
+use Rattle.tables.specs.declared.Refusal.{Refusal}
+use Rattle.tables.specs.Faults.{Verdict}
 use Rattle.tables.specs.Faults.{position_of}
 use Rattle.tables.specs.Limits.{max_atoms, max_position}
 use Rattle.tables.specs.Sound.{Tables}
 use Rattle.tables.proofs.Numbers.{verdict_number}
 use Rattle.evaluator.specs.Evaluate.{evaluate_of, Answers}
+use Rattle.judging.specs.declared.reached.Reached.{Reached}
 use Rattle.judging.specs.declared.reached.Space.{Space}
-use Rattle.judging.specs.declared.reached.Judged.{Judged}
-use Rattle.judging.specs.declared.reached.Judged.TheVariants.{Passed, Failed}
 use Rattle.judging.specs.Judging.{judge_text, max_bytes}
 use Rattle.judging.proofs.Counts.{CountsWithin, counts_within_lem}
 use Rattle.judging.proofs.Accepted.{accepted_book, accepted_size}
@@ -27,8 +28,7 @@ use Rattle.evaluator.proofs.Positions.{evaluate_position, evaluate_rounds}
 use Rattle.booktext.proofs.Positions.{text_position}
 use Rattle.indexed.specs.EvaluateIndexed.{IndexedSlices, EvaluatesIndexed}
 use Rattle.indexed.proofs.Theorems.{indexed_position, indexed_rounds}
-use Rattle.writing.specs.declared.Written.{Written}
-use Rattle.writing.specs.Writing.{write_of, Writes}
+use Rattle.writing.specs.Writing.{write_of, Written, verdict_in, Writes}
 use Rattle.writing.proofs.WriteLaws.{promised_as, verdict_as}
 use Rattle.writing.proofs.Theorems.{written_position, written_length}
 use Rattle.capi.specs.Packing.{packed, packed_with, counts_of, no_answer, EvaluatedForC, EvaluatedIndexedForC, seven_places, ReadForC, WrittenForC}
@@ -82,18 +82,24 @@ module _
 module _
     (t : Tables) (values levels before : List ℕ) {answer : Written} {afterwards : List ℕ}
     (w : Writes t values levels before answer afterwards) where
-  told : answer.verdict ≡ write_of t values levels (length before)
+  told : verdict_in answer ≡ write_of t values levels (length before)
   told = verdict_as (promised_as w)
 
-  -- Its length and its verdict's position are small.
-  pub written_small : (position_of answer.verdict ≤ max_position) × (answer.length ≤ max_bytes)
-  written_small = (rw told (written_position t values levels (length before)), rw w.answered (written_length t values levels (length before)))
+  -- A length that it answers is small, and packed it is the answer for C,
+  pub length_small : (long : ℕ) → answer ≡ Ok long → long ≤ max_bytes
+  length_small long e = rw (sym w.answered ∙ e) at (written_length t values levels (length before))
 
-  pub written_packed :
-      (code : ℕ) → code ≡ packed answer.verdict →
-      WrittenForC t values levels before (answer.length * 4294967296 + code) afterwards
+  pub length_packed : (long : ℕ) → answer ≡ Ok long → WrittenForC t values levels before (long * 4294967296) afterwards
+  unfolding packed_with packed
+  length_packed long e = record { answered = rw (sym w.answered ∙ e, sym told ∙ ap verdict_in e) (omega arith); written = w.written }
+
+  -- and so are the position of a refusal, and the refusal packed.
+  pub refusal_small : (r : Refusal) → answer ≡ Err r → position_of (Err r) ≤ max_position
+  refusal_small r e = rw (sym told ∙ ap verdict_in e) at (written_position t values levels (length before))
+
+  pub refusal_packed : (r : Refusal) (code : ℕ) → answer ≡ Err r → code ≡ packed (Err r) → WrittenForC t values levels before code afterwards
   unfolding packed_with
-  written_packed code packs = record { answered = rw (packs, told, w.answered); written = w.written }
+  refusal_packed r code e packs = record { answered = rw (packs, sym w.answered ∙ e, sym told ∙ ap verdict_in e) (omega arith); written = w.written }
 
 -- ── The reader's counts ──
 
@@ -102,8 +108,8 @@ pub answer_within : (space : Space) (text : List ℕ) → WithinBook (answer_of 
 unfolding answer_of
 answer_within space text = step (judge_text space text) refl
   where
-    step : (j : Judged) → judge_text space text ≡ j → WithinBook (answer_of j)
-    step (Passed s) e =
+    step : (j : Result Reached Refusal) → judge_text space text ≡ j → WithinBook (answer_of j)
+    step (Ok s) e =
         let found = accepted_book space text s e in
         let counts : CountsWithin s = rw found.2 (counts_within_lem _ found.1.book.counts) in
         record {
@@ -114,7 +120,7 @@ answer_within space text = step (judge_text space text) refl
           loads = counts.loads;
           terms = counts.terms;
         }
-    step (Failed fault at) e =
+    step (Err why) e =
         record { atoms = omega arith; rules = omega arith; literals = omega arith; clauses = omega arith; loads = omega arith; terms = omega arith }
 
 module _ {text : List ℕ} {before : Contents} {book : Book} {afterwards : Contents} (r : Reads text before book afterwards) where

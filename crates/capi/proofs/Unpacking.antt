@@ -4,7 +4,7 @@ use Prim.Native.Nat.{ℕ, ◌/◌, ◌%◌, ◌≤◌}
 use mathlib.Core.Path.{◌≡◌}
 use mathlib.Core.List.{List}
 use native.Mathlib.Omega.{arith}
-use Rattle.tables.specs.declared.Verdict.{Verdict}
+use Rattle.tables.specs.Faults.{Verdict}
 use Rattle.tables.specs.Limits.{max_position}
 use Rattle.tables.specs.Faults.{position_of}
 use Rattle.tables.specs.Sound.{Tables}

@@ -1,6 +1,6 @@
 -- How the C calls pack their answers into one number.
 use Rattle.std.specs.Prelude.{ℕ, ◌+◌, ◌*◌, ◌/◌, ◌%◌, ◌≡◌, Bool, cond, List, [], ◌∷◌, eqb, length}
-use Rattle.tables.specs.declared.Verdict.{Verdict}
+use Rattle.tables.specs.Faults.{Verdict}
 use Rattle.tables.specs.Faults.{number_of, position_of}
 use Rattle.tables.specs.Sound.{Tables}
 use Rattle.judging.specs.Judging.{forms_of, judge_text}
@@ -11,7 +11,7 @@ use Rattle.evaluator.specs.Evaluate.{Evaluation}
 use Rattle.indexing.specs.Index.{index_starts, index_entries, index_verdict, built_or}
 use Rattle.indexed.specs.EvaluateIndexed.{IndexedSlices, evaluate_indexed_of, IndexLeft}
 use Rattle.writing.specs.BookForms.{text_of}
-use Rattle.writing.specs.Writing.{write_of, written_of, buffer_after}
+use Rattle.writing.specs.Writing.{write_of, written_of, length_in, buffer_after}
 
 -- The verdict's number × 65,536 + its position; 0 if accepted.
 unfoldable pub packed : Verdict → ℕ
@@ -56,7 +56,7 @@ pub record ReadForC
 -- What the writer's call promises: its answer, and the buffer afterwards.
 pub record WrittenForC (t : Tables) (values levels before : List ℕ) (answer : ℕ) (afterwards : List ℕ) : Type 0 where
   pub answered :
-      answer ≡ packed_with (write_of t values levels (length before)) (written_of (write_of t values levels (length before)) (text_of t values levels)).length
+      answer ≡ packed_with (write_of t values levels (length before)) (length_in (written_of (write_of t values levels (length before)) (text_of t values levels)))
   pub written : afterwards ≡ buffer_after (write_of t values levels (length before)) (text_of t values levels) before
 
 -- What the index's call promises: its answer, and both slices afterwards.

@@ -1,4 +1,5 @@
-// The calls that `capi_c` exports to C, with their answers packed into numbers.
+// The calls that `capi_c` exports to C, with their answers packed into numbers. C lends each table as a pointer and a length: tables are read where they
+// lie, and handed on as they are.
 #![tactic(auto)]
 
 ghost use Rattle.std.specs.Prelude.{◌≡◌, ◌≤◌, length};
@@ -208,8 +209,10 @@ pub fn battenplum_write(
         levels,
         text,
     );
-    let verdict = answer.verdict;
-    answer.length as u64 * 4_294_967_296 + pack(verdict) as u64
+    match answer {
+        Ok(length) => length as u64 * 4_294_967_296,
+        Err(refusal) => pack(Err(refusal)) as u64,
+    }
 }
 
 // The index of lent tables, built in two lent slices.

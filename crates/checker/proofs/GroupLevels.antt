@@ -7,7 +7,7 @@ use lib.ListN.{length}
 use Rattle.wellfounded.specs.Lists.{tabulate}
 use Rattle.wellfounded.specs.Definitions.{Definition}
 use Rattle.wellfounded.proofs.Lists.{member_tabulate}
-use Rattle.tables.specs.declared.Verdict.TheVariants.{Accepted}
+use Rattle.tables.specs.Faults.{accepted}
 use Rattle.tables.specs.Faults.{Test, first_fault}
 use Rattle.tables.specs.Rows.{definition_of}
 use Rattle.tables.specs.Sound.{group_levels}
@@ -27,7 +27,7 @@ module _ (rules literals marks values levels : List ℕ) (groups : ℕ) (all : G
   abbrev pub level_turns : ℕ → Test
   level_turns group = level_test (definitions group) (group_levels (length values) levels group)
 
-  pub groups_ranged : first_fault (tabulate groups level_turns) ≡ Accepted → GroupsRanged definitions rules literals groups values levels
+  pub groups_ranged : first_fault (tabulate groups level_turns) ≡ accepted → GroupsRanged definitions rules literals groups values levels
   unfolding level_test definition_of
   groups_ranged none =
       record {
@@ -39,6 +39,6 @@ module _ (rules literals marks values levels : List ℕ) (groups : ℕ) (all : G
 
   -- So a head of a group has a level of 1 or more there.
   pub groups_heads :
-      first_fault (tabulate groups level_turns) ≡ Accepted → (group : ℕ) → group < groups →
+      first_fault (tabulate groups level_turns) ≡ accepted → (group : ℕ) → group < groups →
       HeadsLevelled rules literals group values (group_levels (length values) levels group)
   groups_heads none group l = heads_levelled ((groups_ranged none).each group l) all.few all.rows

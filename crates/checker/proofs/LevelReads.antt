@@ -16,7 +16,7 @@ use Rattle.wellfounded.proofs.Tests.{decided, clash, not_both, same_test}
 use Rattle.wellfounded.proofs.Literals.{false_read, positive_not_negated, not_negated_positive}
 use Rattle.wellfounded.proofs.Definitions.{defined_below, open_below}
 use Rattle.wellfounded.proofs.Levels.{level_in_range_open, level_in_range_defined}
-use Rattle.tables.specs.declared.Found.TheVariants.{Nothing}
+use Rattle.std.specs.declared.option.Option.TheVariants.{None}
 use Rattle.tables.specs.Faults.{lowest}
 use Rattle.tables.proofs.Faults.{lowest_none, lowest_same}
 use Rattle.checker.specs.Check.{bad_level}
@@ -43,7 +43,7 @@ levels_search {d} r count = rw r.levelled (lowest_same _ _ d.size (λ atom l. rw
 
 -- Levels without a fault are in range.
 pub levels_ranged :
-    {d : Definition} {values levels : List ℕ} → length values ≡ d.size → length levels ≡ d.size → lowest d.size (bad_level d levels) ≡ Nothing →
+    {d : Definition} {values levels : List ℕ} → length values ≡ d.size → length levels ≡ d.size → lowest d.size (bad_level d levels) ≡ None →
     Ranged d values levels
 unfolding bad_level
 levels_ranged {d} {levels = levels} valued levelled none =

@@ -16,7 +16,7 @@ use Rattle.wellfounded.proofs.Tests.{first, and_left}
 use Rattle.wellfounded.proofs.Lists.{get_d_default}
 use Rattle.wellfounded.proofs.Literals.{false_test}
 use Rattle.wellfounded.proofs.Scan.{Sought, seek_start, seek_turn, seek_stop, seek_end, part_body, part_scannable}
-use Rattle.tables.specs.declared.Found.TheVariants.{At}
+use Rattle.std.specs.declared.option.Option.TheVariants.{Some}
 use Rattle.tables.specs.Faults.{lowest}
 use Rattle.tables.specs.Rows.{rule_count, rule_head, rule_start, rule_size, rule_body, rule_group, in_group}
 use Rattle.tables.specs.internal.Scans.{RulesScannable}
@@ -125,5 +125,5 @@ module _
 pub row_end :
     {rules literals values levels : List ℕ} {group row head start size i : ℕ} → RowScan rules literals group values levels row head start size i →
     size ≤ i →
-    At row ≡ lowest (rule_count rules) (unblocked_row rules literals group values levels)
+    Some row ≡ lowest (rule_count rules) (unblocked_row rules literals group values levels)
 row_end now h = search_stop now.at.within (now.at.answer ∙ ap not (seek_end h now.sought)) now.at.searched

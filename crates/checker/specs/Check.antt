@@ -6,7 +6,7 @@ use Rattle.wellfounded.specs.Definitions.{Definition, is_defined}
 use Rattle.wellfounded.specs.Stages.{TwoValued}
 use Rattle.wellfounded.specs.Levels.{Obeys, level_in_range, is_supported, blocks}
 use Rattle.tables.specs.declared.Fault.TheVariants.{Value, Level, Unsupported, Unblocked}
-use Rattle.tables.specs.declared.Verdict.{Verdict}
+use Rattle.tables.specs.Faults.{Verdict}
 use Rattle.tables.specs.Faults.{Test, first_fault}
 use Rattle.tables.specs.Rows.{rule_count, rule_head, rule_body, in_group, group_count}
 use Rattle.tables.specs.Sound.{Tables, group_of, group_levels, claim_slices, lent_tests}

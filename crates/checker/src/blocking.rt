@@ -10,8 +10,9 @@ ghost use Rattle.checker.specs.Check.{blocking_test};
 ghost use Rattle.checker.specs.internal.Scans.{HasEntries, HeadsLevelled, GroupsLevelled, GroupsRanged, blocks_below, unblocked_row};
 
 use crate::levels::levels_of;
+use tables::refusals::absent;
 use tables::rows::{rule_count, rule_group, rule_head, rule_size, rule_start};
-use tables::{Fault, Found, Verdict};
+use tables::{Fault, Verdict};
 use wellfounded::atom_of;
 
 // Whether the literal at place `i` of a body blocks a rule for a false atom at the level: it is false, and its atom is at a
@@ -28,24 +29,20 @@ fn literal_blocks(body: &[u16], i: usize, level: u16, values: &[u8], levels: &[u
 }
 
 // The lowest rule row of a group whose head is false and that has no blocking literal. `levels` are those of the group. The body of another
-// group's row is not walked.
+// group's row is not walked. The labelled loops are the form that docs/DECISIONS.md names for it.
 fn unblocked_row(
     rules: &[u16],
     literals: &[u16],
     group: usize,
     values: &[u8],
     levels: &[u16],
-) -> Found
+) -> Option<usize>
     requires { HeadsLevelled rules.now literals.now group values.now levels.now }
     ensures { result ≡ lowest (rule_count rules.now)
         (unblocked_row rules.now literals.now group values.now levels.now) }
 {
-    let rows = rule_count(rules);
-    let mut next = 0;
-    let mut found = Found::Nothing;
-    'rows: while next < rows {
-        let row = next;
-        next += 1;
+    let mut found = None;
+    'rows: for row in 0..rule_count(rules) {
         let head = rule_head(rules, row);
         if (rule_group(rules, row) != group) | (values[head] != 0) {
             continue 'rows;
@@ -53,14 +50,12 @@ fn unblocked_row(
         let start = rule_start(rules, row);
         let size = rule_size(rules, row);
         let level = levels[head];
-        let mut i = 0;
-        while i < size {
+        for i in 0..size {
             if literal_blocks(&literals[start..], i, level, values, levels) {
                 continue 'rows;
             }
-            i += 1;
         }
-        found = Found::At(row);
+        found = Some(row);
         break 'rows;
     }
     found
@@ -82,13 +77,12 @@ pub fn blocking_fault(
         (group_levels (length values.now) levels.now group))) }
 {
     let atoms = values.len();
-    let mut group = 0;
-    while group < groups {
+    for group in 0..groups {
         let part = levels_of(levels, atoms, group);
-        if let Found::At(row) = unblocked_row(rules, literals, group, values, part) {
-            return Verdict::Refused(Fault::Unblocked, row);
-        }
-        group += 1;
+        absent(
+            Fault::Unblocked,
+            unblocked_row(rules, literals, group, values, part),
+        )?;
     }
-    Verdict::Accepted
+    Ok(())
 }

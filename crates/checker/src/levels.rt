@@ -8,10 +8,12 @@ ghost use Rattle.checker.specs.Check.{bad_level, level_test};
 ghost use Rattle.checker.specs.internal.Scans.{Markable, max_levels, level_fits};
 
 use tables::marks::{count_marked, mark_defined};
+use tables::refusals::absent;
+use tables::searches::lowest;
 use tables::sizes::MAX_ATOMS;
-use tables::{Fault, Found, Verdict};
+use tables::{Fault, Verdict};
 
-// Whether the atom's level is 0 where it is open, and from 1 to `most` where it is defined.
+// Whether the atom's level is 0 where it is open, and from 1 to `most` where it is defined. A range would compare the same two ends.
 fn level_in_range(defined: &[u8], most: usize, levels: &[u16], atom: usize) -> bool
     requires { (atom < length defined.now) × (atom < length levels.now) }
     ensures { result ≡ level_fits defined.now most levels.now atom }
@@ -25,22 +27,18 @@ fn level_in_range(defined: &[u8], most: usize, levels: &[u16], atom: usize) -> b
 }
 
 // The lowest atom whose level is out of range.
-fn bad_level(defined: &[u8], most: usize, levels: &[u16]) -> Found
+fn bad_level(defined: &[u8], most: usize, levels: &[u16]) -> Option<usize>
     requires { length levels.now ≤ length defined.now }
     ensures { result ≡ lowest (length levels.now) (λ atom. not (level_fits defined.now most levels.now atom)) }
 {
-    let mut atom = 0;
-    while atom < levels.len() {
-        if !level_in_range(defined, most, levels, atom) {
-            return Found::At(atom);
-        }
-        atom += 1;
-    }
-    Found::Nothing
+    lowest(
+        levels.len(),
+        |atom| !level_in_range(defined, most, levels, atom),
+    )
 }
 
 // The lowest atom whose level in a group is out of range. `levels` are those of the group.
-fn bad_group_level(rules: &[u16], group: usize, marks: &[u8], levels: &[u16]) -> Found
+fn bad_group_level(rules: &[u16], group: usize, marks: &[u8], levels: &[u16]) -> Option<usize>
     requires { Markable rules.now marks.now × (length levels.now ≡ length marks.now) }
     ensures { (literals : List ℕ) → let d = definition_of (length marks.now) rules.now literals marks.now group in
         result ≡ lowest d.size (bad_level d levels.now) }
@@ -69,13 +67,9 @@ pub fn level_fault(rules: &[u16], marks: &[u8], groups: usize, levels: &[u16]) -
         (group_levels (length marks.now) levels.now group))) }
 {
     let atoms = marks.len();
-    let mut group = 0;
-    while group < groups {
+    for group in 0..groups {
         let part = levels_of(levels, atoms, group);
-        if let Found::At(atom) = bad_group_level(rules, group, marks, part) {
-            return Verdict::Refused(Fault::Level, atom);
-        }
-        group += 1;
+        absent(Fault::Level, bad_group_level(rules, group, marks, part))?;
     }
-    Verdict::Accepted
+    Ok(())
 }

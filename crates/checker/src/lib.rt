@@ -18,9 +18,10 @@ use levels::level_fault;
 use satisfaction::satisfaction_fault;
 use support::support_fault;
 use tables::groups::group_count;
+use tables::refusals::{absent, require};
 use tables::sizes::table_fault;
 use tables::values::not_held_atom;
-use tables::{Fault, Found, Verdict};
+use tables::{Fault, Verdict};
 
 // The first fault of levels and rules, on tables that have none: levels in all groups, then true atoms in all, then rules of false atoms in all.
 fn group_fault(
@@ -38,14 +39,8 @@ fn group_fault(
         (length values.now) groups
         rules.now literals.now values.now levels.now) }
 {
-    let ranged = level_fault(rules, marks, groups, levels);
-    if let Verdict::Refused(_, _) = ranged {
-        return ranged;
-    }
-    let supported = support_fault(rules, literals, groups, values, levels);
-    if let Verdict::Refused(_, _) = supported {
-        return supported;
-    }
+    level_fault(rules, marks, groups, levels)?;
+    support_fault(rules, literals, groups, values, levels)?;
     blocking_fault(rules, literals, groups, values, levels)
 }
 
@@ -74,16 +69,9 @@ fn claim_fault(
         load_literals.now minutes.now marks.now)
         values.now levels.now) }
 {
-    if let Found::At(atom) = not_held_atom(marks) {
-        return Verdict::Refused(Fault::Mark, atom);
-    }
-    if let Found::At(atom) = not_held_atom(values) {
-        return Verdict::Refused(Fault::Value, atom);
-    }
-    let verdict = group_fault(rules, literals, marks, groups, values, levels);
-    if let Verdict::Refused(_, _) = verdict {
-        return verdict;
-    }
+    absent(Fault::Mark, not_held_atom(marks))?;
+    absent(Fault::Value, not_held_atom(values))?;
+    group_fault(rules, literals, marks, groups, values, levels)?;
     satisfaction_fault(clauses, literals, loads, load_literals, minutes, values)
 }
 
@@ -105,7 +93,7 @@ pub fn check(
         minutes.now marks.now)
         values.now levels.now }
 {
-    let verdict = table_fault(
+    table_fault(
         atoms,
         rules,
         literals,
@@ -113,20 +101,11 @@ pub fn check(
         loads,
         load_literals,
         minutes,
-    );
-    if let Verdict::Refused(_, _) = verdict {
-        return verdict;
-    }
-    if values.len() != atoms {
-        return Verdict::Refused(Fault::SliceLength, 0);
-    }
+    )?;
+    require(values.len() == atoms, Fault::SliceLength)?;
     let groups = group_count(rules);
-    if levels.len() != groups * atoms {
-        return Verdict::Refused(Fault::SliceLength, 0);
-    }
-    if marks.len() != atoms {
-        return Verdict::Refused(Fault::Mark, 0);
-    }
+    require(levels.len() == groups * atoms, Fault::SliceLength)?;
+    require(marks.len() == atoms, Fault::Mark)?;
     claim_fault(
         rules,
         literals,

@@ -14,9 +14,11 @@ ghost use Rattle.checker.specs.internal.Scans.{HasEntries, Levelled, HeadsLevell
 ghost use Rattle.checker.specs.internal.Scans.{supports_below, supports_row, supported_by};
 
 use crate::levels::levels_of;
+use tables::refusals::absent;
 use tables::rows::{rule_count, rule_group, rule_head, rule_size, rule_start};
+use tables::searches::lowest;
 use tables::sizes::MAX_ATOMS;
-use tables::{Fault, Found, Verdict};
+use tables::{Fault, Verdict};
 use wellfounded::{atom_of, literal_true};
 
 // Whether the literal supports a true atom at the level: it is true, and its atom is at a strictly lower level. An open atom's
@@ -40,17 +42,16 @@ fn literals_support(
     requires { (Scannable literals.now 0 size (length values.now)) × (length levels.now ≡ length values.now) }
     ensures { result ≡ all (supports_below values.now levels.now level) (body_at literals.now 0 size) }
 {
-    let mut i = 0;
-    while i < size {
-        if !literal_supports(literals[i], level, values, levels) {
+    // A `for` and not the library's `all`, for the reason that `literals_true` of wellfounded has.
+    for literal in &literals[..size] {
+        if !literal_supports(*literal, level, values, levels) {
             return false;
         }
-        i += 1;
     }
     true
 }
 
-// Whether the body that begins at `start` supports an atom at the level.
+// Whether the body that begins at `start` supports an atom at the level. The part from start on is the form that docs/DECISIONS.md names for it.
 fn body_supports(
     literals: &[u16],
     start: usize,
@@ -104,31 +105,23 @@ fn mark_supported(
         (supported_by rules.now literals.now group values.now levels.now (rule_count rules.now))
         supported.old }
 {
-    let rows = rule_count(rules);
-    let mut row = 0;
-    while row < rows {
+    for row in 0..rule_count(rules) {
         let head = rule_head(rules, row);
         if supported[head] != 1 && row_supports(rules, row, literals, group, values, levels) {
             supported[head] = 1;
         }
-        row += 1;
     }
 }
 
 // The lowest atom that is defined and true and has no support. A level from 1 on tells that an atom is defined.
-fn unsupported_atom(values: &[u8], levels: &[u16], supported: &[u8]) -> Found
+fn unsupported_atom(values: &[u8], levels: &[u16], supported: &[u8]) -> Option<usize>
     requires { (length values.now ≤ length levels.now) × (length values.now ≤ length supported.now) }
     ensures { result ≡ lowest (length values.now)
         (λ atom. leb 1 (level_at levels.now atom) && is_true (value_at values.now atom) && not (is_marked supported.now atom)) }
 {
-    let mut atom = 0;
-    while atom < values.len() {
-        if 1 <= levels[atom] && values[atom] == 1 && supported[atom] != 1 {
-            return Found::At(atom);
-        }
-        atom += 1;
-    }
-    Found::Nothing
+    lowest(values.len(), |atom| {
+        1 <= levels[atom] && values[atom] == 1 && supported[atom] != 1
+    })
 }
 
 // The lowest true atom that a group defines and that has no rule there which supports it. `levels` are those of the group.
@@ -138,7 +131,7 @@ fn unsupported_in_group(
     group: usize,
     values: &[u8],
     levels: &[u16],
-) -> Found
+) -> Option<usize>
     requires { HeadsLevelled rules.now literals.now group values.now levels.now }
     ensures { (d : Definition) → GroupRanged d rules.now literals.now group values.now levels.now →
         result ≡ lowest d.size (unsupported d values.now levels.now) }
@@ -164,13 +157,12 @@ pub fn support_fault(
         (group_levels (length values.now) levels.now group))) }
 {
     let atoms = values.len();
-    let mut group = 0;
-    while group < groups {
+    for group in 0..groups {
         let part = levels_of(levels, atoms, group);
-        if let Found::At(atom) = unsupported_in_group(rules, literals, group, values, part) {
-            return Verdict::Refused(Fault::Unsupported, atom);
-        }
-        group += 1;
+        absent(
+            Fault::Unsupported,
+            unsupported_in_group(rules, literals, group, values, part),
+        )?;
     }
-    Verdict::Accepted
+    Ok(())
 }

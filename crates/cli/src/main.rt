@@ -41,9 +41,7 @@ const PIPE_CLOSED: u8 = 141;
 
 // Tells on standard error what went wrong; nobody is left to tell where that fails too.
 fn tell(rt: &impl Eprint, stream: &str, error: io::Error) {
-    match eprintln!(rt; "battenplum: {stream}: {error}") {
-        Ok(()) | Err(_) => {}
-    }
+    let _ = eprintln!(rt; "battenplum: {stream}: {error}");
 }
 
 // Trouble with input or output is told, and has no status of its own.

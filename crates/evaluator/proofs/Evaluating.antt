@@ -1,228 +1,186 @@
--- From the evaluation's stages to its answer.
+-- From what is lent to the evaluator's answer.
 -- Assumes nothing.
-use Prim.Native.Nat.{ℕ, ◌<◌}
-use mathlib.Core.Path.{◌≡◌, refl, sym, ap, subst, ◌∙◌}
-use mathlib.Core.Bool.{Bool, true, false, not}
+use Prim.Native.Nat.{ℕ, ◌≤◌, ◌<◌}
+use mathlib.Core.Path.{◌≡◌, refl, sym, ap, ◌∙◌}
+use mathlib.Core.List.Memᴰ
 use mathlib.Core.List.{List, [], ◌∷◌, Memᴰ}
-use lib.IntN.{ℤ}
+use native.Mathlib.Omega.{arith}
 use lib.ListN.{length}
-use borrow.Author.Tests.{eqb-true, not-false}
-use Rattle.wellfounded.specs.Lists.{all}
-use Rattle.wellfounded.specs.Definitions.{Definition, is_defined}
-use Rattle.wellfounded.proofs.Lists.{all_use}
+use Rattle.std.specs.Prelude.{IsErrAnd}
+use Rattle.std.specs.declared.option.Option.{Option}
+use Rattle.std.specs.declared.result.Result.{Result}
+use Rattle.std.specs.declared.result.Result.TheVariants.{Ok, Err}
+use Rattle.wellfounded.specs.Definitions.{is_defined}
 use Rattle.wellfounded.proofs.Closure.{model_length}
-use Rattle.tables.specs.declared.Found.{Found}
-use Rattle.tables.specs.declared.Found.TheVariants.{At, Nothing}
-use Rattle.tables.specs.declared.Fault.{Fault}
-use Rattle.tables.specs.declared.Fault.TheVariants.{Value, SliceLength, Mark}
-use Rattle.tables.specs.declared.Verdict.{Verdict}
-use Rattle.tables.specs.declared.Verdict.TheVariants.{Accepted, Refused}
-use Rattle.tables.specs.Faults.{lowest, Test, Absent, first_fault}
-use Rattle.tables.specs.internal.Marks.{is_marked}
-use Rattle.tables.specs.internal.Marks.{TellsDefined}
-use Rattle.tables.specs.Sound.{Tables, lent, group_of, book_of, table_tests, Slice, is_sized, slice_test, mark_count_test, mark_test}
-use Rattle.satisfaction.specs.Satisfied.{satisfaction_tests}
-use Rattle.tables.proofs.Faults.{lowest_same, found_refuses, nothing_leaves, first_fails, once_fails, first_append, first_append_refused, accepted_absent}
-use Rattle.tables.proofs.SoundTables.{sound_sizes, sound_rules, sound_clauses, sound_loads, slice_leaves, lent_order, marks_refuse, marks_leave}
-use Rattle.tables.proofs.RowLaws.{defined_tell, book_size, book_rows_lem}
+use Rattle.tables.specs.declared.Refusal.{Refusal}
+use Rattle.tables.specs.declared.Fault.TheVariants.{Value}
 use Rattle.tables.specs.Limits.{max_atoms}
-use Rattle.tables.specs.Values.{not_held}
+use Rattle.tables.specs.Faults.{Verdict, accepted, lowest, refused_or, Test, Absent, first_fault}
+use Rattle.tables.specs.Rows.{rule_count, rule_head}
+use Rattle.tables.specs.Sound.{Tables, group_of, book_of, table_tests, Slice, lent_tests}
+use Rattle.tables.specs.internal.Marks.{is_marked, TellsDefined}
+use Rattle.tables.specs.internal.Scans.{RulesScannable, ClausesScannable, LoadsScannable}
+use Rattle.tables.proofs.Faults.{lowest_same, first_append, first_append_refused, accepted_absent, absent_alone}
+use Rattle.tables.proofs.SoundTables.{sound_sizes, sound_rules, sound_clauses, sound_loads, slices_fit, lent_tables_lem, lent_slices_lem, lent_marks}
+use Rattle.tables.proofs.RowLaws.{defined_tell, book_size, book_rows_lem}
+use Rattle.satisfaction.specs.Satisfied.{clause_test, load_test, satisfaction_tests}
 use Rattle.rounds.specs.internal.Starting.{bad_start}
 use Rattle.rounds.specs.internal.Rounds.{StagesReady, RoundsDone}
-use Rattle.evaluator.specs.Evaluate.{bad_setting, setting_test, undecided_test, model_tests, evaluation_slices, refusal_tests, Evaluation, evaluated, stopped_or, evaluate_of, Answers}
-use Rattle.evaluator.specs.internal.Lent.{Lent, start_tests}
-
-module _
-    (t : Tables) (setting values levels work : List ℕ) (long : length setting ≡ t.atoms) (sound : Lent t values levels work) (defined : List ℕ)
-    (marked : TellsDefined t.rules t.marks 0 max_atoms defined)
-  where
-    tells : (atom : ℕ) → atom < t.atoms → is_marked defined atom ≡ is_defined (book_of t) atom
-    unfolding book_of group_of
-    tells = defined_tell t.atoms t.rules t.literals t.marks 0 sound.marks_long marked
-
-    -- The search of the setting looks for the fault of the definition.
-    pub setting_same : lowest (length setting) (bad_start defined setting) ≡ lowest (book_of t).size (bad_setting (book_of t) setting)
-    unfolding bad_start bad_setting
-    setting_same = rw (long ∙ sym (book_size t)) (lowest_same _ _ (book_of t).size (λ atom l. rw (tells atom (rw book_size at l))))
-
-    pub stages_ready : StagesReady (book_of t) t.rules t.literals defined setting values levels work
-    stages_ready =
-        record {
-          lends = record {
-            few = rw book_size sound.few;
-            long = long ∙ sym (book_size t);
-            has_rows = book_rows_lem t;
-            rows = rw book_size sound.rows;
-            room = marked.long;
-            tells = λ atom l. tells atom (rw book_size at l);
-          };
-          values_long = sound.values_long ∙ sym long;
-          levels_long = sound.levels_long ∙ sym long;
-          work_long = sound.work_long ∙ sym long;
-        }
-
--- The model has a value for each atom.
-pub done_long :
-    {d : Definition} {setting values levels work : List ℕ} {rounds : ℕ} → RoundsDone d setting values levels work rounds →
-    length values ≡ d.size
-done_long {d} {setting} done = ap length done.model ∙ model_length d setting
-
--- Marks of 0 and 1 leave the verdict to the setting.
-pub marks_left :
-    (t : Tables) (setting : List ℕ) (found : Found) → found ≡ lowest t.atoms (not_held t.marks) → found ≡ Nothing →
-    first_fault (start_tests t setting) ≡ first_fault (setting_test (book_of t) setting ∷ [])
-unfolding start_tests mark_test
-marks_left t setting found is none = nothing_leaves _ _ _ found refl is none
-
--- A bad mark and a bad setting stop the evaluation with nothing written;
-module _ (t : Tables) (setting values levels work : List ℕ) (found : Found) (atom : ℕ) where
-  stop_answer :
-      (fault : Fault) → Refused fault atom ≡ first_fault (start_tests t setting) →
-      Answers (stopped_or (first_fault (start_tests t setting)) values levels work (evaluated t setting)) (Refused fault atom) 0 values levels work
-  unfolding stopped_or
-  stop_answer fault e = rw (sym e) (record { verdict_is = refl; rounds_is = refl; values_is = refl; levels_is = refl; work_is = refl })
-
-  pub mark_answer :
-      found ≡ lowest t.atoms (not_held t.marks) → found ≡ At atom →
-      Answers (stopped_or (first_fault (start_tests t setting)) values levels work (evaluated t setting)) (Refused Mark atom) 0 values levels work
-  unfolding start_tests mark_test
-  mark_answer is at = stop_answer Mark (found_refuses _ _ _ found atom refl is at)
-
-  pub stopped_answer :
-      first_fault (start_tests t setting) ≡ first_fault (setting_test (book_of t) setting ∷ []) →
-      found ≡ lowest (book_of t).size (bad_setting (book_of t) setting) → found ≡ At atom →
-      Answers (stopped_or (first_fault (start_tests t setting)) values levels work (evaluated t setting)) (Refused Value atom) 0 values levels work
-  unfolding setting_test
-  stopped_answer left is at = stop_answer Value (found_refuses _ _ _ found atom left is at)
-
--- otherwise the stages and the model's first fault are the answer.
-pub made_answer :
-    (t : Tables) (setting values levels work : List ℕ) → first_fault (start_tests t setting) ≡ first_fault (setting_test (book_of t) setting ∷ []) →
-    (found : Found) → found ≡ lowest (book_of t).size (bad_setting (book_of t) setting) → found ≡ Nothing →
-    (verdict : Verdict) (rounds : ℕ) (values' levels' work' : List ℕ) → length setting ≡ t.atoms →
-    RoundsDone (book_of t) setting values' levels' work' rounds →
-    verdict ≡ first_fault (undecided_test (length values') values' ∷ satisfaction_tests t values') →
-    Answers (stopped_or (first_fault (start_tests t setting)) values levels work
-    (evaluated t setting)) verdict rounds values' levels' work'
-unfolding setting_test stopped_or evaluated model_tests first_fault
-made_answer t setting values levels work left found is none verdict rounds values' levels' work' long done fault =
-    let valued = done_long done ∙ book_size t in
-    rw (nothing_leaves (start_tests t setting) (setting_test (book_of t) setting) [] found left is none)
-    (record {
-      verdict_is = rw valued at fault ∙ ap (λ (v : List ℕ). first_fault (model_tests t v)) done.model;
-      rounds_is = done.many;
-      values_is = done.model;
-      levels_is = done.stages;
-      work_is = rw long at done.cleared;
-    })
-
--- ── The whole call ──
-
--- Tables and slices without a fault of 11 to 17, with N marks, leave the verdict to single marks, the setting and the model.
-pub record Prepared (t : Tables) (setting values levels work : List ℕ) : Type 0 where
-  pub setting_long : length setting ≡ t.atoms
-  pub sound : Lent t values levels work
-  pub leaves :
-      evaluate_of t setting values levels work
-      ≡ stopped_or (first_fault (start_tests t setting)) values levels work (evaluated t setting)
+use Rattle.evaluator.specs.Evaluate.{bad_setting, setting_test, undecided_test, model_tests, evaluation_slices, refusal_tests, evaluated, stopped_or, evaluate_of, Answers}
+use Rattle.evaluator.specs.internal.Making.{stop_of, Stopped, Made, Makes}
 
 module _ (t : Tables) (setting values levels work : List ℕ) where
-  abbrev pub slices : List Slice
+  abbrev slices : List Slice
   slices = evaluation_slices t.atoms (length setting) (length values) (length levels) (length work)
 
-  -- What is refused before the evaluation leaves all slices as they were.
-  refused_answer :
-      (fault : Fault) (position : ℕ) → first_fault (refusal_tests t setting slices) ≡ Refused fault position →
-      Answers (evaluate_of t setting values levels work) (Refused fault position) 0 values levels work
-  unfolding evaluate_of stopped_or
-  refused_answer fault position e =
-      rw e (record { verdict_is = refl; rounds_is = refl; values_is = refl; levels_is = refl; work_is = refl })
+  -- ── What is lent has no fault ──
 
-  -- Unsound tables, a slice of another length,
-  pub tables_answer :
-      (verdict : Verdict) (fault : Fault) (position : ℕ) → verdict ≡ first_fault (table_tests t) → verdict ≡ Refused fault position →
-      Answers (evaluate_of t setting values levels work) verdict 0 values levels work
-  unfolding refusal_tests
-  tables_answer verdict fault position is refused =
-      rw refused
-      (refused_answer fault position
-      (ap first_fault (lent_order t slices _) ∙ first_append_refused (table_tests t) _ fault position (sym is ∙ refused)))
+  module _ (none : (test : Test) → Memᴰ test (lent_tests t slices) → Absent test) where
+    tables : (test : Test) → Memᴰ test (table_tests t) → Absent test
+    tables = lent_tables_lem t slices none
 
-  module _ (verdict : Verdict) (is : verdict ≡ first_fault (table_tests t)) (accepted : verdict ≡ Accepted) (fit : Bool)
-      (fits : fit ≡ all is_sized slices) where
-    pub slices_answer : not fit ≡ true → Answers (evaluate_of t setting values levels work) (Refused SliceLength 0) 0 values levels work
-    unfolding refusal_tests slice_test
-    slices_answer wrong =
-        refused_answer SliceLength 0
-        (ap first_fault (lent_order t slices _) ∙ first_append (table_tests t) _ (sym is ∙ accepted)
-        ∙ first_fails _ _ 0 (once_fails _ (ap not (sym fits) ∙ wrong)))
+    long : (s : Slice) → Memᴰ s slices → s.entries ≡ s.due
+    long = slices_fit slices (lent_slices_lem t slices none)
 
-    -- marks that are not one for each atom,
-    module _ (right : not fit ≡ false) where
-      long : (s : Slice) → Memᴰ s slices → s.entries ≡ s.due
-      unfolding is_sized
-      long s m = eqb-true _ _ (all_use is_sized slices (sym fits ∙ not-false _ right) m)
+    setting_long : length setting ≡ t.atoms
+    setting_long = long _ (Memᴰ.head refl)
 
-      none : (test : Test) → Memᴰ test (table_tests t) → Absent test
-      none = accepted_absent (table_tests t) (sym is ∙ accepted)
+    few : t.atoms ≤ max_atoms
+    few = (sound_sizes t tables).few_atoms
 
-      marks_left_to :
-          first_fault (refusal_tests t setting slices)
-          ≡ first_fault (mark_count_test t ∷ mark_test t ∷ setting_test (book_of t) setting ∷ [])
+    rows : RulesScannable t.rules t.literals t.atoms
+    rows = sound_rules t tables
+
+    many : length t.marks ≡ t.atoms
+    many = (lent_marks t slices none).many
+
+  -- ── Making ──
+
+  -- What is refused is answered, and nothing is written.
+  stopped :
+      (answer : Result ℕ Refusal) {r : Refusal} → stop_of t setting values levels work ≡ Err r →
+      IsErrAnd answer (λ e. e ≡ r) → Makes t setting values levels work answer values levels work
+  unfolding Makes
+  stopped (Ok rounds) stops same = absurd same
+  stopped (Err e) stops same =
+      record { stops = stops ∙ ap Err (sym same); same_values = refl; same_levels = refl; same_work = refl }
+
+  module _ {lent : Verdict} (is : lent ≡ first_fault (lent_tests t slices)) where
+    -- A fault of what is lent stops it.
+    pub lent_stops :
+        (answer : Result ℕ Refusal) {r : Refusal} → lent ≡ Err r → IsErrAnd answer (λ e. e ≡ r) →
+        Makes t setting values levels work answer values levels work
+    unfolding refusal_tests
+    lent_stops answer {r} was same =
+        stopped answer (first_append_refused (lent_tests t slices) _ r.fault r.position (sym is ∙ was)) same
+
+    module _ (passed : lent ≡ accepted) where
+      none : (test : Test) → Memᴰ test (lent_tests t slices) → Absent test
+      none = accepted_absent (lent_tests t slices) (sym is ∙ passed)
+
+      -- The marks of defined atoms have room,
+      pub heads_fit : (row : ℕ) → row < rule_count t.rules → rule_head t.rules row < max_atoms
+      heads_fit row l = omega (arith, few none, (rows none).heads row l)
+
+      pub marks_fit : length t.marks ≤ max_atoms
+      marks_fit = omega (arith, few none, many none)
+
+      module _ {defined : List ℕ} (marked : TellsDefined t.rules t.marks 0 max_atoms defined) where
+        tells : (atom : ℕ) → atom < t.atoms → is_marked defined atom ≡ is_defined (book_of t) atom
+        unfolding book_of group_of
+        tells = defined_tell t.atoms t.rules t.literals t.marks 0 (many none) marked
+
+        -- and by them the setting is searched for the fault of the definition.
+        pub setting_fits : length setting ≤ length defined
+        setting_fits = omega (arith, few none, setting_long none, marked.long)
+
+        setting_same : lowest (length setting) (bad_start defined setting) ≡ lowest (book_of t).size (bad_setting (book_of t) setting)
+        unfolding bad_start bad_setting
+        setting_same =
+            rw (setting_long none ∙ sym (book_size t)) (lowest_same _ _ (book_of t).size (λ atom l. rw (tells atom (rw book_size at l))))
+
+        pub stages_ready : StagesReady (book_of t) t.rules t.literals defined setting values levels work
+        stages_ready =
+            record {
+              lends = record {
+                few = rw book_size (few none);
+                long = setting_long none ∙ sym (book_size t);
+                has_rows = book_rows_lem t;
+                rows = rw book_size (rows none);
+                room = marked.long;
+                tells = λ atom l. tells atom (rw book_size at l);
+              };
+              values_long = long none _ (Memᴰ.tail (Memᴰ.head refl)) ∙ sym (setting_long none);
+              levels_long = long none _ (Memᴰ.tail (Memᴰ.tail (Memᴰ.head refl))) ∙ sym (setting_long none);
+              work_long = long none _ (Memᴰ.tail (Memᴰ.tail (Memᴰ.tail (Memᴰ.head refl)))) ∙ sym (setting_long none);
+            }
+
+        module _ {found : Option ℕ} (finds : found ≡ lowest (length setting) (bad_start defined setting)) {verdict : Verdict}
+            (judges : verdict ≡ refused_or Value found accepted) where
+          -- Its verdict is then that on the setting.
+          stop_is : stop_of t setting values levels work ≡ verdict
+          unfolding refusal_tests setting_test
+          stop_is =
+              first_append (lent_tests t slices) _ (sym is ∙ passed)
+              ∙ sym (absent_alone (setting_test (book_of t) setting) found verdict judges (finds ∙ setting_same))
+
+          -- A bad one stops it,
+          pub setting_stops :
+              (answer : Result ℕ Refusal) {r : Refusal} → verdict ≡ Err r → IsErrAnd answer (λ e. e ≡ r) →
+              Makes t setting values levels work answer values levels work
+          setting_stops answer was same = stopped answer (stop_is ∙ was) same
+
+          -- and else the rounds are answered.
+          pub makes :
+              {rounds : ℕ} {values' levels' work' : List ℕ} → verdict ≡ accepted → RoundsDone (book_of t) setting values' levels' work' rounds →
+              Makes t setting values levels work (Ok rounds) values' levels' work'
+          unfolding Makes
+          makes good done = record { passes = stop_is ∙ good; done = done }
+
+  -- ── The answer ──
+
+  module _ (answer : Result ℕ Refusal) (values' levels' work' : List ℕ) (made : Makes t setting values levels work answer values' levels' work') where
+    -- What stops it is its answer,
+    pub stop_answer :
+        {r : Refusal} → answer ≡ Err r → Answers (evaluate_of t setting values levels work) (Err r) 0 values' levels' work'
+    unfolding Makes evaluate_of stopped_or
+    stop_answer {r} e =
+        let s : Stopped t setting values levels work r values' levels' work' = rw e at made in
+        rw (s.stops, s.same_values, s.same_levels, s.same_work)
+        (record { verdict_is = refl; rounds_is = refl; values_is = refl; levels_is = refl; work_is = refl })
+
+    -- and else the first fault of the model that was made.
+    module _ {rounds : ℕ} (e : answer ≡ Ok rounds) where
+      model : Made t setting values levels work rounds values' levels' work'
+      unfolding Makes
+      model = rw e at made
+
+      none_lent : (test : Test) → Memᴰ test (lent_tests t slices) → Absent test
       unfolding refusal_tests
-      marks_left_to =
-          ap first_fault (lent_order t slices _) ∙ first_append (table_tests t) _ (sym is ∙ accepted) ∙ slice_leaves slices _ long
+      none_lent test m = accepted_absent (refusal_tests t setting slices) model.passes test (Memᴰ.append_left _ m)
 
-      pub marks_answer :
-          (length t.marks ≡ t.atoms → ⊥) → Answers (evaluate_of t setting values levels work) (Refused Mark 0) 0 values levels work
-      marks_answer other = refused_answer Mark 0 (marks_left_to ∙ marks_refuse t _ other)
+      valued : length values' ≡ t.atoms
+      valued = ap length model.done.model ∙ model_length (book_of t) setting ∙ book_size t
 
-      -- or single marks, the setting and the model decide.
-      pub prepared : length t.marks ≡ t.atoms → Prepared t setting values levels work
-      unfolding evaluate_of start_tests
-      prepared many =
-          record {
-            setting_long = long _ (Memᴰ.head refl);
-            sound = record {
-              few = (sound_sizes t none).few_atoms;
-              rows = sound_rules t none;
-              clause_rows = sound_clauses t none;
-              load_rows = sound_loads t none;
-              marks_long = many;
-              values_long = long _ (Memᴰ.tail (Memᴰ.head refl));
-              levels_long = long _ (Memᴰ.tail (Memᴰ.tail (Memᴰ.head refl)));
-              work_long = long _ (Memᴰ.tail (Memᴰ.tail (Memᴰ.tail (Memᴰ.head refl))));
-            };
-            leaves =
-                ap (λ (v : Verdict). stopped_or v values levels work (evaluated t setting))
-                (marks_left_to ∙ marks_leave t _ many);
-          }
+      pub model_clauses : ClausesScannable t.clauses t.literals (length values')
+      model_clauses = rw valued (sound_clauses t (tables none_lent))
 
--- The call lends the number of atoms as the setting's length.
-module _ (atoms : ℕ) (rules literals clauses : List ℕ) (loads : List ℤ) (load_literals : List ℕ) (minutes : List ℤ) (marks setting values levels work : List ℕ)
-    (ready : Prepared (lent atoms rules literals clauses loads load_literals minutes marks) setting values levels work) where
-  abbrev pub resized : Tables
-  resized = lent (length setting) rules literals clauses loads load_literals minutes marks
+      pub model_loads : LoadsScannable t.loads t.load_literals t.minutes (length values')
+      model_loads = rw valued (sound_loads t (tables none_lent))
 
-  same : length setting ≡ atoms
-  unfolding lent
-  same = ready.setting_long
-
-  pub resized_sound : Lent resized values levels work
-  resized_sound = subst (λ (n : ℕ). Lent (lent n rules literals clauses loads load_literals minutes marks) values levels work) (sym same) ready.sound
-
-  pub resized_answer :
-      (verdict : Verdict) (rounds : ℕ) (values' levels' work' : List ℕ) →
-      Answers (stopped_or (first_fault (start_tests resized setting)) values levels work
-      (evaluated resized setting)) verdict rounds values' levels' work' →
-      Answers (evaluate_of
-      (lent atoms rules literals clauses loads load_literals minutes marks) setting values levels work) verdict rounds values' levels' work'
-  resized_answer verdict rounds values' levels' work' answer =
-      subst (λ (e : Evaluation). Answers e verdict rounds values' levels' work')
-      (ap
-      (λ (n : ℕ).
-      let t = lent n rules literals clauses loads load_literals minutes marks in
-      stopped_or (first_fault (start_tests t setting)) values levels work (evaluated t setting))
-      same
-      ∙ sym ready.leaves)
-      answer
+      pub made_answer :
+          {verdict : Verdict} →
+          verdict ≡ first_fault
+          (undecided_test (length values') values' ∷ clause_test t.clauses t.literals values'
+          ∷ load_test t.loads t.load_literals t.minutes values' ∷ []) →
+          Answers (evaluate_of t setting values levels work) verdict rounds values' levels' work'
+      unfolding evaluate_of stopped_or evaluated model_tests satisfaction_tests
+      made_answer fault =
+          rw model.passes
+          (record {
+            verdict_is = rw valued at fault ∙ ap (λ (v : List ℕ). first_fault (model_tests t v)) model.done.model;
+            rounds_is = model.done.many;
+            values_is = model.done.model;
+            levels_is = model.done.stages;
+            work_is = rw (setting_long none_lent) at model.done.cleared;
+          })

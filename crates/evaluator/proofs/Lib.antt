@@ -1,4 +1,5 @@
--- From the rounds to the evaluator's answer, and what its verdict tells.
+-- From what is lent to the evaluator's answer, and what its verdict tells.
+pub mod LentFault
 pub mod Evaluating
 pub mod MadeLaws
 pub mod SettingFault

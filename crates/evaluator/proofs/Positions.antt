@@ -8,8 +8,8 @@ use native.Mathlib.Omega.{arith}
 use lib.ListN.{length}
 use Rattle.wellfounded.specs.Stages.{closure, Setting}
 use Rattle.wellfounded.proofs.Closure.{closure_size}
-use Rattle.tables.specs.declared.Verdict.{Verdict}
-use Rattle.tables.specs.declared.Verdict.TheVariants.{Accepted, Refused}
+use Rattle.std.specs.declared.result.Result.TheVariants.{Ok, Err}
+use Rattle.tables.specs.Faults.{Verdict, accepted}
 use Rattle.tables.specs.Limits.{max_atoms, max_position}
 use Rattle.tables.specs.Faults.{position_of, first_fault}
 use Rattle.tables.specs.Rows.{definition_of}
@@ -30,7 +30,7 @@ unfolding refusal_tests setting_test
 refusal_position t setting slices =
     lent_position t slices _ (λ z. position_more _ _ (few_in_book t z) (λ a. position_none))
 
-module _ (t : Tables) (setting : List ℕ) (slices : List Slice) (e : first_fault (refusal_tests t setting slices) ≡ Accepted) where
+module _ (t : Tables) (setting : List ℕ) (slices : List Slice) (e : first_fault (refusal_tests t setting slices) ≡ accepted) where
   -- Of a setting that is not refused the open atoms are false or true.
   pub open_given : Setting (book_of t) setting
   unfolding refusal_tests
@@ -61,8 +61,8 @@ module _ (t : Tables) (setting values levels work : List ℕ) where
       step :
           (v : Verdict) → first_fault (refusal_tests t setting lent_slices) ≡ v →
           position_of (stopped_or v values levels work (evaluated t setting)).verdict ≤ max_position
-      step Accepted e = model_position t (small_tables t setting lent_slices e) _
-      step (Refused fault position) e = rw e at (refusal_position t setting lent_slices)
+      step (Ok nothing) e = model_position t (small_tables t setting lent_slices e) _
+      step (Err refusal) e = rw e at (refusal_position t setting lent_slices)
 
   pub evaluate_rounds : (evaluate_of t setting values levels work).rounds ≤ max_atoms
   unfolding evaluate_of stopped_or evaluated
@@ -70,5 +70,5 @@ module _ (t : Tables) (setting values levels work : List ℕ) where
     where
       step :
           (v : Verdict) → first_fault (refusal_tests t setting lent_slices) ≡ v → (stopped_or v values levels work (evaluated t setting)).rounds ≤ max_atoms
-      step Accepted e = small_closure t setting lent_slices e
-      step (Refused fault position) e = omega arith
+      step (Ok nothing) e = small_closure t setting lent_slices e
+      step (Err refusal) e = omega arith

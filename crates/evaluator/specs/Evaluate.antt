@@ -4,11 +4,10 @@ use Rattle.wellfounded.specs.Lists.{any}
 use Rattle.wellfounded.specs.Literals.{is_held, value_at}
 use Rattle.wellfounded.specs.Definitions.{Definition, is_defined}
 use Rattle.wellfounded.specs.Stages.{closure, well_founded_model, stages_of}
+use Rattle.std.specs.declared.result.Result.TheVariants.{Ok, Err}
 use Rattle.tables.specs.declared.Fault.{Fault}
 use Rattle.tables.specs.declared.Fault.TheVariants.{Value, Undecided, FailingClause, FailingLoad}
-use Rattle.tables.specs.declared.Verdict.{Verdict}
-use Rattle.tables.specs.declared.Verdict.TheVariants.{Accepted, Refused}
-use Rattle.tables.specs.Faults.{fault_number, Test, first_fault}
+use Rattle.tables.specs.Faults.{Verdict, fault_number, Test, first_fault}
 use Rattle.tables.specs.Sound.{Tables, book_of, Slice, sized, lent_tests}
 use Rattle.tables.specs.Values.{not_held}
 use Rattle.satisfaction.specs.Satisfied.{satisfaction_tests}
@@ -45,8 +44,8 @@ model_fault fault = any (λ (f : Fault). eqb (fault_number f) (fault_number faul
 
 -- Whether an evaluation was made: it was accepted, or refused for its model.
 unfoldable pub is_made : Verdict → Bool
-is_made Accepted = true
-is_made (Refused fault position) = model_fault fault
+is_made (Ok nothing) = true
+is_made (Err refusal) = model_fault refusal.fault
 
 -- The answer, and what values, levels and work hold afterwards.
 pub record Evaluation : Type 0 where
@@ -69,9 +68,9 @@ evaluated t setting =
 
 -- Stopped: nothing is written and rounds is 0.
 unfoldable pub stopped_or : Verdict → List ℕ → List ℕ → List ℕ → Evaluation → Evaluation
-stopped_or Accepted values levels work made = made
-stopped_or (Refused fault position) values levels work made =
-    record { verdict = Refused fault position; rounds = 0; values = values; levels = levels; work = work }
+stopped_or (Ok nothing) values levels work made = made
+stopped_or (Err refusal) values levels work made =
+    record { verdict = Err refusal; rounds = 0; values = values; levels = levels; work = work }
 
 unfoldable pub evaluate_of : Tables → List ℕ → List ℕ → List ℕ → List ℕ → Evaluation
 evaluate_of t setting values levels work =

@@ -6,15 +6,16 @@ use mathlib.Core.Bool.{Bool, true, false, cond}
 use mathlib.Core.List.{List, [], ◌∷◌, ◌++◌, append_assoc, append-nil}
 use lib.IntN.{ℤ}
 use lib.ListN.{length, drop}
+use Rattle.std.specs.Prelude.{Option, None, Some}
 use Rattle.format.specs.declared.kinds.Kind.{Kind}
-use Rattle.format.specs.declared.kinds.Kind.TheVariants.{Atoms, Rule, Clause, Load, Open, Claim, Defined, Unknown}
+use Rattle.format.specs.declared.kinds.Kind.TheVariants.{Atoms, Rule, Clause, Load, Open, Claim, Defined}
 use Rattle.format.specs.Forms.{LiteralText, TermText, PairText}
 use Rattle.format.specs.Forms.{Form, atoms_form, rule_form, clause_form, load_form, open_form, claim_form, defined_form}
 use Rattle.format.specs.Forms.{space, closing, line_end, atoms_word, rule_word, clause_word, load_word, open_word, claim_word, defined_word}
 use Rattle.format.specs.Forms.{decimal, signed, literal_bytes, term_bytes, pair_bytes, parts_bytes, render}
 use Rattle.format.specs.Words.{starts_with, word_of, kind_of}
 use Rattle.format.specs.Parse.{Reading, got, refused, Holds, and_then, skip, read_number, read_signed, read_literal, read_term, read_pair, parts}
-use Rattle.format.specs.Parse.{read_atoms, read_rule, read_clause, read_load, read_open, read_claim, as_defined, read_defined, read_as, read_form, whole, parse, read_line}
+use Rattle.format.specs.Parse.{read_atoms, read_rule, read_clause, read_load, read_open, read_claim, as_defined, read_defined, read_as, read_known, read_form, whole, parse, read_line}
 use Rattle.format.proofs.Readings.{holds_use, holds_then, skip_written}
 use Rattle.format.proofs.Pieces.{closing_ends, space_ends, number_inverse, signed_inverse, literal_inverse, term_inverse}
 use Rattle.format.proofs.Parts.{parts_end, parts_reads, parts_written, pair_inverse}
@@ -22,11 +23,11 @@ use Rattle.format.proofs.WordLaws.{started}
 
 -- Each form is read as it is written.
 atoms_reads : (n : ℕ) (rest : List ℕ) → read_form (render (atoms_form n) ++ rest) ≡ got (atoms_form n) rest
-unfolding render read_form kind_of word_of read_as starts_with read_atoms and_then skip
+unfolding render read_form read_known kind_of word_of read_as starts_with read_atoms and_then skip
 atoms_reads n rest = rw (append_assoc, number_inverse.reads n (closing ∷ rest) (closing_ends rest))
 
 rule_reads : (h : ℕ) (ls : List LiteralText) (rest : List ℕ) → read_form (render (rule_form h ls) ++ rest) ≡ got (rule_form h ls) rest
-unfolding render read_form kind_of word_of read_as starts_with read_rule and_then skip
+unfolding render read_form read_known kind_of word_of read_as starts_with read_rule and_then skip
 rule_reads h ls rest =
     rw (
       append_assoc,
@@ -35,11 +36,11 @@ rule_reads h ls rest =
     )
 
 clause_reads : (ls : List LiteralText) (rest : List ℕ) → read_form (render (clause_form ls) ++ rest) ≡ got (clause_form ls) rest
-unfolding render read_form kind_of word_of read_as starts_with read_clause and_then skip
+unfolding render read_form read_known kind_of word_of read_as starts_with read_clause and_then skip
 clause_reads ls rest = rw (parts_reads literal_bytes read_literal literal_inverse ls rest)
 
 load_reads : (lo hi : ℤ) (ts : List TermText) (rest : List ℕ) → read_form (render (load_form lo hi ts) ++ rest) ≡ got (load_form lo hi ts) rest
-unfolding render read_form kind_of word_of read_as starts_with read_load and_then skip
+unfolding render read_form read_known kind_of word_of read_as starts_with read_load and_then skip
 load_reads lo hi ts rest =
     simp append_assoc
     (rw (
@@ -49,15 +50,15 @@ load_reads lo hi ts rest =
     ))
 
 open_reads : (atoms : List ℕ) (rest : List ℕ) → read_form (render (open_form atoms) ++ rest) ≡ got (open_form atoms) rest
-unfolding render read_form kind_of word_of read_as starts_with read_open and_then skip
+unfolding render read_form read_known kind_of word_of read_as starts_with read_open and_then skip
 open_reads atoms rest = rw (parts_reads decimal read_number number_inverse atoms rest)
 
 claim_reads : (ps : List PairText) (rest : List ℕ) → read_form (render (claim_form ps) ++ rest) ≡ got (claim_form ps) rest
-unfolding render read_form kind_of word_of read_as starts_with read_claim and_then skip
+unfolding render read_form read_known kind_of word_of read_as starts_with read_claim and_then skip
 claim_reads ps rest = rw (parts_reads pair_bytes read_pair pair_inverse ps rest)
 
 defined_reads : (atom : ℕ) (others rest : List ℕ) → read_form (render (defined_form atom others) ++ rest) ≡ got (defined_form atom others) rest
-unfolding render read_form kind_of word_of read_as starts_with read_defined as_defined and_then skip
+unfolding render read_form read_known kind_of word_of read_as starts_with read_defined as_defined and_then skip
 defined_reads atom others rest = rw (parts_reads decimal read_number number_inverse (atom ∷ others) rest)
 
 pub form_reads : (f : Form) (rest : List ℕ) → read_form (render f ++ rest) ≡ got f rest
@@ -137,17 +138,19 @@ module _ (bytes : List ℕ) where
   as_written Open = open_written
   as_written Claim = claim_written
   as_written Defined = defined_written
-  as_written Unknown = tt
 
--- The word that tells the kind stands in front.
+-- The word that tells a kind stands in front.
 module _ (bytes : List ℕ) where
-  abbrev Begins : Kind → Type 0
-  Begins kind = word_of kind ++ drop (length (word_of kind)) bytes ≡ bytes
+  abbrev Begins : Option Kind → Type 0
+  Begins (Some kind) = word_of kind ++ drop (length (word_of kind)) bytes ≡ bytes
+  Begins None = Unit {0}
 
-  begins : (word : List ℕ) (kind other : Kind) → word_of kind ≡ word → Begins other → Begins (cond (starts_with word bytes) kind other)
+  begins :
+      (word : List ℕ) (kind : Kind) (other : Option Kind) → word_of kind ≡ word → Begins other →
+      Begins (cond (starts_with word bytes) (Some kind) other)
   begins word kind other e later = step (starts_with word bytes) refl
     where
-      step : (t : Bool) → starts_with word bytes ≡ t → Begins (cond t kind other)
+      step : (t : Bool) → starts_with word bytes ≡ t → Begins (cond t (Some kind) other)
       step true h = rw e (sym (started word bytes h))
       step false h = later
 
@@ -155,17 +158,21 @@ module _ (bytes : List ℕ) where
   unfolding kind_of word_of
   kind_begins =
       begins atoms_word Atoms _ refl (begins rule_word Rule _ refl (begins clause_word Clause _ refl (begins load_word Load _ refl (begins open_word Open _ refl
-      (begins claim_word Claim _ refl (begins defined_word Defined Unknown refl refl))))))
+      (begins claim_word Claim _ refl (begins defined_word Defined None refl tt))))))
 
 pub form_written : (bytes : List ℕ) → Holds (λ f rest. bytes ≡ render f ++ rest) (read_form bytes)
-unfolding read_form
-form_written bytes = step (read_as (kind_of bytes) (drop (length (word_of (kind_of bytes))) bytes)) (as_written _ (kind_of bytes))
+unfolding read_form read_known
+form_written bytes = step (kind_of bytes) (kind_begins bytes)
   where
-    step :
-        (r : Reading Form) → Holds (λ f rest. word_of (kind_of bytes) ++ drop (length (word_of (kind_of bytes))) bytes ≡ render f ++ rest) r →
+    read :
+        (front : List ℕ) → front ≡ bytes → (r : Reading Form) → Holds (λ f rest. front ≡ render f ++ rest) r →
         Holds (λ f rest. bytes ≡ render f ++ rest) r
-    step (got f rest) h = sym (kind_begins bytes) ∙ h
-    step refused h = tt
+    read front begun (got f rest) h = sym begun ∙ h
+    read front begun refused h = tt
+
+    step : (known : Option Kind) → Begins bytes known → Holds (λ f rest. bytes ≡ render f ++ rest) (read_known known bytes)
+    step (Some kind) begun = read _ begun (read_as kind (drop (length (word_of kind)) bytes)) (as_written _ kind)
+    step None begun = tt
 
 -- A line parses as a form exactly if it is that form's rendering.
 all_read :

@@ -1,15 +1,14 @@
--- Laws of words at an offset: what `skip` leaves after one, and the loop that compares it byte by byte.
+-- Laws of words at an offset: what `skip` leaves after one, and how the code compares it with the bytes there.
 -- Assumes nothing.
-use Prim.Native.Nat.{ℕ, suc, ◌+◌, ◌-◌, ◌≤◌, ◌<◌}
-use mathlib.Core.Path.{◌≡◌, refl, sym, ◌∙◌}
+use Prim.Native.Nat.{ℕ, ◌-◌, ◌<◌, min}
+use mathlib.Core.Path.{◌≡◌, refl, ap}
 use mathlib.Core.Bool.{Bool, true, false, cond, ◌&&◌}
 use mathlib.Core.List.{List, [], ◌∷◌, ◌++◌}
-use native.Mathlib.Numerals.{add-one}
 use native.Mathlib.Omega.{arith}
-use lib.ListN.{length, get_or, drop, length-drop, drop_of_length-le}
-use lib.Seq.{drop-cons}
+use lib.ListN.{length, take, drop, length-drop}
 use lib.Dec.{eqb}
-use borrow.Author.Tests.{eq-eqb, ne_eqb}
+use Rattle.std.specs.Cmp.Lexicographic.{pointwise}
+use Rattle.std.proofs.lemmas.List.{drop_min, take_rest}
 use Rattle.format.specs.Parse.{got, refused, skip}
 use Rattle.format.specs.Words.{starts_with, word_at}
 use Rattle.format.proofs.Readings.{holds_use, skip_written}
@@ -53,34 +52,20 @@ too_short (w ∷ ws) (b ∷ bs) l = step (eqb w b) (too_short ws bs (omega arith
     step true later = later
     step false later = refl
 
+-- The bytes that the code compares are the word's first and as many of the others.
+begins_is : (word bytes : List ℕ) → pointwise eqb word (take (length word) bytes) ≡ starts_with word bytes
+unfolding starts_with
+begins_is [] bytes = refl
+begins_is (w ∷ ws) [] = refl
+begins_is (w ∷ ws) (b ∷ bs) = ap (λ (t : Bool). eqb w b && t) (begins_is ws bs)
+
 module _ (text : List ℕ) (at : ℕ) (word : List ℕ) where
   pub word_short : length text - at < length word → word_at text at word ≡ false
   unfolding word_at
   word_short l = too_short word (drop at text) (rw (length-drop at text) l)
 
-  -- The first `place` bytes agree: the word stands here if the rest of it stands there.
-  pub record Agrees (place : ℕ) : Type 0 where
-    pub low : place ≤ length word
-    pub rest : word_at text (at + place) (drop place word) ≡ word_at text at word
-
-  pub agrees_start : Agrees 0
-  agrees_start = let e : at + 0 ≡ at = omega arith in record { low = omega arith; rest = rw e refl }
-
-  module _ {place : ℕ} (agrees : Agrees place) (in_word : place < length word) (inText : at + place < length text) where
-    pub agrees_turn : get_or text (at + place) 0 ≡ get_or word place 0 → Agrees (place + 1)
-    unfolding word_at starts_with
-    agrees_turn e =
-        let s : at + (place + 1) ≡ suc (at + place) = omega arith in
-        record {
-          low = omega arith;
-          rest = rw (s, add-one) (sym (rw (drop-cons text (at + place) 0 inText, drop-cons word place 0 in_word, eq-eqb _ _ (sym e)) refl) ∙ agrees.rest);
-        }
-
-    pub agrees_stop : (get_or text (at + place) 0 ≡ get_or word place 0 → ⊥) → word_at text at word ≡ false
-    unfolding word_at starts_with
-    agrees_stop n =
-        sym agrees.rest ∙ rw (drop-cons text (at + place) 0 inText, drop-cons word place 0 in_word, ne_eqb _ _ (λ e. n (sym e))) refl
-
-  pub agrees_end : {place : ℕ} → Agrees place → length word ≤ place → word_at text at word ≡ true
-  unfolding word_at starts_with
-  agrees_end agrees l = sym agrees.rest ∙ rw (drop_of_length-le word l) refl
+  -- From the end on as from beyond it, no bytes are left.
+  pub word_told :
+      {from : ℕ} → from ≡ min at (length text) → pointwise eqb word (take (length word) (take (length text - from) (drop from text))) ≡ word_at text at word
+  unfolding word_at
+  word_told e = rw (take_rest text _, e, drop_min at text) (begins_is word (drop at text))

@@ -1,9 +1,9 @@
 -- The printer read backwards: each piece of the format is read from the front of some bytes, and what is left is handed on.
-use Rattle.std.specs.Prelude.{ℕ, zero, suc, ◌+◌, ◌-◌, ◌*◌, Bool, true, false, cond, not, ◌&&◌, List, [], ◌∷◌, leb, eqb, ℤ, pos, negsuc, length, drop}
+use Rattle.std.specs.Prelude.{ℕ, zero, suc, ◌+◌, ◌-◌, ◌*◌, Bool, true, false, cond, not, ◌&&◌, List, [], ◌∷◌, leb, eqb, ℤ, pos, negsuc, length, drop, Option, None, Some}
 use Rattle.format.specs.Forms.{LiteralText, TermText, PairText, Form, atoms_form, rule_form, clause_form, load_form, open_form, claim_form, defined_form}
 use Rattle.format.specs.Forms.{space, opening, closing, minus, line_end, not_word}
 use Rattle.format.specs.declared.kinds.Kind.{Kind}
-use Rattle.format.specs.declared.kinds.Kind.TheVariants.{Atoms, Rule, Clause, Load, Open, Claim, Defined, Unknown}
+use Rattle.format.specs.declared.kinds.Kind.TheVariants.{Atoms, Rule, Clause, Load, Open, Claim, Defined}
 use Rattle.format.specs.Words.{kind_of, word_of}
 
 -- Something read, with the bytes after it; or a refusal.
@@ -134,11 +134,14 @@ read_as Load bytes = read_load bytes
 read_as Open bytes = read_open bytes
 read_as Claim bytes = read_claim bytes
 read_as Defined bytes = read_defined bytes
-read_as Unknown bytes = refused
 
--- The form at the front of some bytes: its word tells the kind.
+-- The form at the front of some bytes: its word tells the kind, and where no form's word stands there is none.
+unfoldable pub read_known : Option Kind → List ℕ → Reading Form
+read_known (Some kind) bytes = read_as kind (drop (length (word_of kind)) bytes)
+read_known None bytes = refused
+
 unfoldable pub read_form : List ℕ → Reading Form
-read_form bytes = read_as (kind_of bytes) (drop (length (word_of (kind_of bytes))) bytes)
+read_form bytes = read_known (kind_of bytes) bytes
 
 -- A line parses as a form if nothing is left of it.
 unfoldable pub whole : Reading Form → Reading Form

@@ -1,7 +1,7 @@
 -- What a form says, part by part. Whatever is asked of a form but its bytes is asked of its view.
 use Rattle.std.specs.Prelude.{ℕ, Bool, List, [], ◌∷◌, eqb, ℤ, pos}
 use Rattle.format.specs.declared.kinds.Kind.{Kind}
-use Rattle.format.specs.declared.kinds.Kind.TheVariants.{Atoms, Rule, Clause, Load, Open, Claim, Defined, Unknown}
+use Rattle.format.specs.declared.kinds.Kind.TheVariants.{Atoms, Rule, Clause, Load, Open, Claim, Defined}
 use Rattle.format.specs.Forms.{LiteralText, TermText, PairText}
 use Rattle.format.specs.Forms.{Form, atoms_form, rule_form, clause_form, load_form, open_form, claim_form, defined_form}
 
@@ -38,7 +38,6 @@ kind_in f = (view_of f).kind
 
 -- Kinds are told apart by their numbers.
 unfoldable pub kind_number : Kind → ℕ
-kind_number Unknown = 0
 kind_number Atoms = 1
 kind_number Rule = 2
 kind_number Clause = 3

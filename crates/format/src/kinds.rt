@@ -4,7 +4,7 @@ ghost use Rattle.format.specs.Words.{kind_at};
 
 use crate::words::word_at;
 
-// The kind of a form; `Unknown` where no form's word stands.
+// The kind of a form.
 #[derive(Clone, Copy)]
 pub enum Kind {
     Atoms,
@@ -14,33 +14,32 @@ pub enum Kind {
     Open,
     Claim,
     Defined,
-    Unknown,
 }
 
-// The kind of form whose word stands at an offset.
-pub fn kind_at(text: &[u8], at: usize) -> Kind
+// The kind of form whose word stands at an offset, if one stands there.
+pub fn kind_at(text: &[u8], at: usize) -> Option<Kind>
     ensures { result ≡ kind_at text.now at }
 {
     if word_at(text, at, b"(atoms") {
-        return Kind::Atoms;
+        return Some(Kind::Atoms);
     }
     if word_at(text, at, b"(rule") {
-        return Kind::Rule;
+        return Some(Kind::Rule);
     }
     if word_at(text, at, b"(clause") {
-        return Kind::Clause;
+        return Some(Kind::Clause);
     }
     if word_at(text, at, b"(load") {
-        return Kind::Load;
+        return Some(Kind::Load);
     }
     if word_at(text, at, b"(open") {
-        return Kind::Open;
+        return Some(Kind::Open);
     }
     if word_at(text, at, b"(claim") {
-        return Kind::Claim;
+        return Some(Kind::Claim);
     }
     if word_at(text, at, b"(defined") {
-        return Kind::Defined;
+        return Some(Kind::Defined);
     }
-    Kind::Unknown
+    None
 }

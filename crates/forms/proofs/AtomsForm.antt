@@ -9,21 +9,21 @@ use lib.Dec.{leb}
 use lib.ListN.{drop, replicate}
 use lib.Seq.{sets}
 use borrow.Author.Tests.{leb-true}
+use Rattle.std.specs.Prelude.{None, Some}
 use Rattle.tables.specs.Limits.{max_atoms}
 use Rattle.format.specs.declared.kinds.Kind.TheVariants.{Atoms}
-use Rattle.numerals.specs.declared.numbers.Number.TheVariants.{Read, Refused}
 use Rattle.format.specs.Forms.{Form, atoms_form, space, closing}
 use Rattle.format.specs.Views.{view_of, of_kind, same_kind, kind_number}
 use Rattle.format.specs.Words.{word_at}
-use Rattle.format.specs.Parse.{got, and_then, read_atoms}
+use Rattle.format.specs.Parse.{got, and_then, read_number, read_atoms}
 use Rattle.numerals.specs.internal.Offsets.{capped, number_at}
 use Rattle.numerals.proofs.CappedLaws.{capped_small, capped_within}
-use Rattle.items.proofs.ItemLaws.{number_none_read, byte_got, byte_none}
+use Rattle.numerals.proofs.OffsetLaws.{read_none}
+use Rattle.items.proofs.ItemLaws.{byte_got, byte_none}
 use Rattle.items.proofs.ItemChains.{offset_left}
 use Rattle.judging.specs.declared.reached.Reached.{Reached}
 use Rattle.judging.specs.Judging.{rises_from, bound_within, numbers_within}
 use Rattle.judging.specs.internal.Shapes.{capped_rise, parts_in, shape_of}
-use Rattle.forms.specs.declared.Line.TheVariants.{Formed, NoForm}
 use Rattle.forms.specs.Entries.{marks_given}
 use Rattle.forms.specs.internal.Readers.{WellPlaced, Forms}
 use Rattle.forms.proofs.FormLaws.{number_after, form_none, form_got}
@@ -50,23 +50,23 @@ atoms_laid s before n e put good =
     put ∙ rw (e, capped_small n (omega arith))
 
 module _ {s : Reached} (text : List ℕ) (at : ℕ) {W : Form → Type 0} where
-  pub atoms_unspaced : word_at text at (space ∷ []) ≡ false → Forms s text (read_atoms (drop at text)) NoForm W
+  pub atoms_unspaced : word_at text at (space ∷ []) ≡ false → Forms s text (read_atoms (drop at text)) None W
   unfolding read_atoms and_then
   atoms_unspaced f = form_none s text (rw (byte_none text at space f))
 
   module _ (spaced : word_at text at (space ∷ []) ≡ true) where
-    pub atoms_sizeless : number_at text (at + 1) ≡ Refused → Forms s text (read_atoms (drop at text)) NoForm W
+    pub atoms_sizeless : number_at text (at + 1) ≡ None → Forms s text (read_atoms (drop at text)) None W
     unfolding read_atoms and_then
-    atoms_sizeless e = form_none s text (rw ((byte_got text at space spaced).0, number_none_read text (at + 1) e))
+    atoms_sizeless e = form_none s text (rw ((byte_got text at space spaced).0, read_none capped read_number text (at + 1) e))
 
     pub atoms_unclosed :
-        {size next : ℕ} → number_at text (at + 1) ≡ Read size next → word_at text next (closing ∷ []) ≡ false →
-        Forms s text (read_atoms (drop at text)) NoForm W
+        {size next : ℕ} → number_at text (at + 1) ≡ Some (size, next) → word_at text next (closing ∷ []) ≡ false →
+        Forms s text (read_atoms (drop at text)) None W
     unfolding read_atoms and_then
     atoms_unclosed {size} {next} sized f =
         form_none s text (rw ((byte_got text at space spaced).0, (number_after text at spaced sized).2.reads, byte_none text next closing f))
 
-module _ (text : List ℕ) (at : ℕ) {size next : ℕ} (spaced : word_at text at (space ∷ []) ≡ true) (sized : number_at text (at + 1) ≡ Read size next)
+module _ (text : List ℕ) (at : ℕ) {size next : ℕ} (spaced : word_at text at (space ∷ []) ≡ true) (sized : number_at text (at + 1) ≡ Some (size, next))
     (closed : word_at text next (closing ∷ []) ≡ true) where
   atoms_got : read_atoms (drop at text) ≡ got (atoms_form (number_after text at spaced sized).0) (drop (next + 1) text)
   unfolding read_atoms and_then
@@ -75,7 +75,7 @@ module _ (text : List ℕ) (at : ℕ) {size next : ℕ} (spaced : word_at text a
   pub atoms_formed :
       {s : Reached} (before : List ℕ) {marks : List ℕ} → marks ≡ sets before 0 (replicate size 0) →
       Forms s text (read_atoms (drop at text))
-      (Formed (record { kind = Atoms; size = size; parts = 0; within = leb size max_atoms; rising = true }) (next + 1))
+      (Some (record { kind = Atoms; size = size; parts = 0; within = leb size max_atoms; rising = true }, next + 1))
       (λ f. marks ≡ sets before 0 (marks_given s f))
   atoms_formed {s} before put =
       let n = number_after text at spaced sized in

@@ -8,49 +8,50 @@ use native.Mathlib.Omega.{arith}
 use lib.IntN.{ℤ}
 use lib.ListN.{length, drop, length-append, length-drop}
 use lib.Seq.{sets, drop-drop}
+use Rattle.std.specs.Prelude.{Option, None, Some}
 use Rattle.wellfounded.specs.Lists.{all, join_below}
 use Rattle.format.specs.declared.kinds.Kind.{Kind}
-use Rattle.format.specs.declared.kinds.Kind.TheVariants.{Atoms, Rule, Clause, Load, Open, Claim, Defined, Unknown}
+use Rattle.format.specs.declared.kinds.Kind.TheVariants.{Atoms, Rule, Clause, Load, Open, Claim, Defined}
 use Rattle.format.specs.Forms.{LiteralText, TermText, PairText, Form, atoms_form, rule_form, clause_form, load_form, open_form, claim_form, defined_form}
 use Rattle.format.specs.Forms.{space, closing}
 use Rattle.format.specs.Views.{view_of, of_kind, same_kind, kind_number}
 use Rattle.format.specs.Words.{word_of, kind_at}
 use Rattle.format.specs.Parse.{Reading, got, refused, Holds, and_then, skip, read_number, read_signed, read_literal, read_term, read_pair, parts}
-use Rattle.format.specs.Parse.{read_atoms, read_rule, read_clause, read_load, read_open, read_claim, as_defined, read_defined, read_as, read_form}
+use Rattle.format.specs.Parse.{read_atoms, read_rule, read_clause, read_load, read_open, read_claim, as_defined, read_defined, read_as, read_known, read_form}
 use Rattle.items.specs.Items.{literal_code, level_columns}
 use Rattle.format.proofs.Lines.{kind_begins}
 use Rattle.judging.specs.declared.reached.Reached.{Reached}
+use Rattle.judging.specs.declared.reached.Shape.{Shape}
 use Rattle.judging.specs.LentTables.{Rules, Literals, Clauses, Loads, LoadLiterals, Minutes, Marks, Values, Levels}
 use Rattle.judging.specs.States.{groups_reached, count_in}
 use Rattle.judging.specs.Judging.{levelled, if_levelled}
 use Rattle.judging.proofs.TableLaws.{each_table}
 use Rattle.lists.specs.internal.Lists.{Inside}
-use Rattle.forms.specs.declared.Line.{Line}
-use Rattle.forms.specs.declared.Line.TheVariants.{NoForm}
 use Rattle.forms.specs.Contents.{Contents, lent_tables}
 use Rattle.forms.specs.Entries.{entries_of, given_anew, literals_in, terms_in, rule_row, clause_row, load_row, marks_given, state_values, state_levels}
 use Rattle.forms.specs.internal.Stores.{place_in, store}
-use Rattle.forms.specs.internal.Readers.{formed, Forms}
+use Rattle.numerals.specs.internal.Offsets.{answered}
+use Rattle.forms.specs.internal.Readers.{Forms}
 
 -- The entries of a form are stored.
 abbrev pub Stored : Reached → Contents → Contents → Form → Type 0
 Stored s before afterwards f = afterwards ≡ store s (entries_of s f) before
 
 -- A form is read on from after the word of its kind.
-module _ {text : List ℕ} {at : ℕ} {result : Kind} (inside : Inside text at) (is : result ≡ kind_at text at) where
+module _ {text : List ℕ} {at : ℕ} {result : Kind} (inside : Inside text at) (is : Some result ≡ kind_at text at) where
   pub inside_after : (kind : Kind) → result ≡ kind → Inside text (at + length (word_of kind))
   unfolding kind_at
   inside_after kind e =
-      let stands : word_of kind ++ drop (length (word_of kind)) (drop at text) ≡ drop at text = rw (sym is ∙ e) at (kind_begins (drop at text)) in
+      let stands : word_of kind ++ drop (length (word_of kind)) (drop at text) ≡ drop at text = rw (sym is, e) at (kind_begins (drop at text)) in
       let sum : length (word_of kind) + length (drop (length (word_of kind)) (drop at text)) ≡ length text - at =
       sym (length-append (word_of kind) _) ∙ (ap length stands ∙ length-drop at text) in
       record { reached = omega (arith, inside.reached); short = inside.short }
 
 read_as_lem :
-    (text : List ℕ) (at : ℕ) {result : Kind} (kind : Kind) → result ≡ kind_at text at → result ≡ kind →
+    (text : List ℕ) (at : ℕ) {result : Kind} (kind : Kind) → Some result ≡ kind_at text at → result ≡ kind →
     read_form (drop at text) ≡ read_as kind (drop (at + length (word_of kind)) text)
-unfolding read_form kind_at
-read_as_lem text at kind is e = rw (sym is ∙ e, drop-drop)
+unfolding read_form read_known kind_at
+read_as_lem text at kind is e = rw (sym is, e, drop-drop)
 
 -- Each kind is read as forms of that kind alone.
 module _ {A : Type 0} (P : Form → Type 0) where
@@ -100,7 +101,7 @@ module _ (P : Form → Type 0) (bytes : List ℕ) where
 
 -- What a form of some kind has written is what its entries ask,
 lifted :
-    {s : Reached} {text : List ℕ} {answer : Line} (bytes : List ℕ) {written : Form → Type 0} (stored : Form → Type 0) (r : Reading Form) →
+    {s : Reached} {text : List ℕ} {answer : Option (Shape × ℕ)} (bytes : List ℕ) {written : Form → Type 0} (stored : Form → Type 0) (r : Reading Form) →
     read_form bytes ≡ r → Holds (λ f rest. written f → stored f) r → Forms s text (if_levelled s r) answer written →
     Forms s text (if_levelled s (read_form bytes)) answer stored
 unfolding if_levelled
@@ -118,7 +119,7 @@ pairless s (got f rest) h = rw h
 pairless s refused h = refl
 
 lifted_plain :
-    {s : Reached} {text : List ℕ} {answer : Line} (bytes : List ℕ) {written : Form → Type 0} (stored : Form → Type 0) (r : Reading Form) →
+    {s : Reached} {text : List ℕ} {answer : Option (Shape × ℕ)} (bytes : List ℕ) {written : Form → Type 0} (stored : Form → Type 0) (r : Reading Form) →
     read_form bytes ≡ r → Holds (λ f rest. (view_of f).pairs ≡ []) r → Holds (λ f rest. written f → stored f) r → Forms s text r answer written →
     Forms s text (if_levelled s (read_form bytes)) answer stored
 lifted_plain {s} bytes stored r e none h read = lifted bytes stored r e h (rw (pairless s r none) read)
@@ -143,13 +144,14 @@ stored_tables s f before after r l c d o m a v k =
     fun_ext (each_table (λ table. after table ≡ store s (entries_of s f) before table) r l c d o m a v k)
 
 -- No word of a form stands at the offset.
-module _ {s : Reached} {text : List ℕ} (at : ℕ) {result : Kind} (before : Contents) (is : result ≡ kind_at text at) where
-  pub no_kind : result ≡ Unknown → Forms s text (if_levelled s (read_form (drop at text))) NoForm (Stored s before before)
-  unfolding read_as formed if_levelled
-  no_kind e = rw (read_as_lem text at Unknown is e) record { answered = refl; laid = tt }
+pub no_kind :
+    {s : Reached} {text : List ℕ} (at : ℕ) (before : Contents) → None ≡ kind_at text at →
+    Forms s text (if_levelled s (read_form (drop at text))) None (Stored s before before)
+unfolding read_form read_known kind_at answered if_levelled
+no_kind at before is = rw (sym is) record { answered = refl; laid = tt }
 
 -- A form of each kind, read after its word. It adds to the tables of its kind, and the others are left as they were.
-module _ {s : Reached} {text : List ℕ} (at : ℕ) {result : Kind} {answer : Line} (before : Contents) (is : result ≡ kind_at text at) where
+module _ {s : Reached} {text : List ℕ} (at : ℕ) {result : Kind} {answer : Option (Shape × ℕ)} (before : Contents) (is : Some result ≡ kind_at text at) where
   -- An atoms form and a defined form give the marks.
   pub atoms_form_lem :
       (marks₁ : List ℕ) → result ≡ Atoms →

@@ -1,59 +1,55 @@
 -- Lists of parts that were read: what their answer says, and that there are no more parts than bytes.
 -- Assumes nothing.
 use Prim.Native.Nat.{ℕ, ◌-◌, ◌≤◌, ◌<◌}
-use mathlib.Core.Path.{◌≡◌, refl}
+use mathlib.Core.Path.{◌≡◌, sym, ap, ◌∙◌}
 use mathlib.Core.Bool.{Bool, true}
 use mathlib.Core.List.{List, ◌++◌}
 use native.Mathlib.Omega.{arith}
 use lib.ListN.{length, drop, length-drop}
+use Rattle.std.specs.Prelude.{Option, None, Some}
 use Rattle.wellfounded.specs.Lists.{all}
 use Rattle.format.specs.Forms.{parts_bytes}
 use Rattle.format.specs.Parse.{Reading, got, refused, parts}
+use Rattle.numerals.proofs.OffsetLaws.{answer_some, answer_none}
 use Rattle.format.proofs.Readings.{holds_use}
 use Rattle.format.proofs.Pieces.{Inverse}
 use Rattle.format.proofs.Parts.{parts_many, parts_written}
 use Rattle.lists.specs.declared.Parts.{Parts}
-use Rattle.lists.specs.declared.Parts.TheVariants.{Listed, NoList}
-use Rattle.lists.specs.internal.Lists.{listed, Inside, Lists}
+use Rattle.lists.specs.internal.Lists.{parts_of, Inside, Lists}
 
 module _ {A : Type 0} where
-  -- What a list that was read says: its parts, how many, whether they are within their limits and rise, and what was written of them.
+  -- What a list that was read says: its parts, what is told of them, and what was written of them.
   pub record Gathered
-      (text : List ℕ) (within : A → Bool) (ordered : List A → Bool) (reading : Reading (List A)) (count : ℕ) (fine rise : Bool) (end : ℕ)
-      (P : List A → Type 0) : Type 0 where
+      (text : List ℕ) (within : A → Bool) (ordered : List A → Bool) (reading : Reading (List A)) (told : Parts) (end : ℕ) (P : List A → Type 0)
+      : Type 0 where
     pub xs : List A
     pub rest : List ℕ
     pub reads : reading ≡ got xs rest
-    pub counted : count ≡ length xs
-    pub tested : fine ≡ all within xs
-    pub rises : rise ≡ ordered xs
+    pub tells : told ≡ parts_of within ordered xs
+    pub counted : told.count ≡ length xs
+    pub rises : told.ordered ≡ ordered xs
     pub ended : end ≡ length text - length rest
     pub laid : all within xs ≡ true → P xs
 
-  module _ {text : List ℕ} {within : A → Bool} {ordered : List A → Bool} {answer : Parts} {P : List A → Type 0} where
-    gathered_from :
-        (reading : Reading (List A)) {count end : ℕ} {fine rise : Bool} → Lists text within ordered reading answer P →
-        answer ≡ Listed count fine rise end →
-        Gathered text within ordered reading count fine rise end P
-    unfolding listed
-    gathered_from (got xs rest) l e =
-        let a = l.answered in
-        record { xs = xs; rest = rest; reads = refl; counted = cc; tested = cc; rises = cc; ended = cc; laid = l.laid }
-    gathered_from refused l e = let a = l.answered in let z : ◌≡◌ {A = ℕ} 0 1 = cc in absurd (omega arith)
+  module _ {text : List ℕ} {within : A → Bool} {ordered : List A → Bool} {answer : Option (Parts × ℕ)} {P : List A → Type 0}
+      {reading : Reading (List A)} (list : Lists text within ordered reading answer P) where
+    pub gathered : {told : Parts} {end : ℕ} → answer ≡ Some (told, end) → Gathered text within ordered reading told end P
+    unfolding parts_of
+    gathered e =
+        let g = answer_some (parts_of within ordered) text reading (sym list.answered ∙ e) in
+        record {
+          xs = g.0;
+          rest = g.1;
+          reads = g.2;
+          tells = g.3;
+          counted = ap (λ (p : Parts). p.count) g.3;
+          rises = ap (λ (p : Parts). p.ordered) g.3;
+          ended = g.4;
+          laid = holds_use (λ xs rest. all within xs ≡ true → P xs) list.laid g.2;
+        }
 
-    pub gathered :
-        {reading : Reading (List A)} {count end : ℕ} {fine rise : Bool} → Lists text within ordered reading answer P →
-        answer ≡ Listed count fine rise end →
-        Gathered text within ordered reading count fine rise end P
-    gathered {reading} l e = gathered_from reading l e
-
-    none_from : (reading : Reading (List A)) → Lists text within ordered reading answer P → answer ≡ NoList → reading ≡ refused
-    unfolding listed
-    none_from (got xs rest) l e = let a = l.answered in let z : ◌≡◌ {A = ℕ} 0 1 = cc in absurd (omega arith)
-    none_from refused l e = refl
-
-    pub gathered_none : {reading : Reading (List A)} → Lists text within ordered reading answer P → answer ≡ NoList → reading ≡ refused
-    gathered_none {reading} l e = none_from reading l e
+    pub gathered_none : answer ≡ None → reading ≡ refused
+    gathered_none e = answer_none (parts_of within ordered) text reading (sym list.answered ∙ e)
 
   -- There are no more parts than bytes.
   pub parts_within :
@@ -65,10 +61,10 @@ module _ {A : Type 0} where
   -- so that the count has 16 bits.
   pub count_small :
       (bytes : A → List ℕ) (item : List ℕ → Reading A) → Inverse bytes item → (at : ℕ) →
-      {text : List ℕ} {within : A → Bool} {ordered : List A → Bool} {answer : Parts} {P : List A → Type 0} {start count end : ℕ}
-      {fine rise : Bool} →
-      Inside text start → Lists text within ordered (parts item (drop at text)) answer P → answer ≡ Listed count fine rise end →
-      count < 65536
+      {text : List ℕ} {within : A → Bool} {ordered : List A → Bool} {answer : Option (Parts × ℕ)} {P : List A → Type 0} {start end : ℕ}
+      {told : Parts} →
+      Inside text start → Lists text within ordered (parts item (drop at text)) answer P → answer ≡ Some (told, end) →
+      told.count < 65536
   count_small bytes item inverse at {text} i l e =
       let g = gathered l e in
       omega (arith, g.counted, parts_within bytes item inverse (drop at text) g.reads, length-drop at text, i.short)

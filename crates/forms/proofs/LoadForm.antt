@@ -9,11 +9,11 @@ use lib.Dec.{leb}
 use lib.IntN.{ℤ, nat_abs}
 use lib.ListN.{length, drop}
 use borrow.Author.Tests.{leb-true}
+use Rattle.std.specs.Prelude.{Option, None, Some}
 use Rattle.wellfounded.specs.Lists.{all}
 use Rattle.wellfounded.proofs.Tests.{first, second}
 use Rattle.tables.specs.Limits.{max_bound}
 use Rattle.format.specs.declared.kinds.Kind.TheVariants.{Load}
-use Rattle.numerals.specs.declared.signed.Signed.TheVariants.{Whole, Malformed}
 use Rattle.format.specs.Forms.{TermText, Form, load_form, space}
 use Rattle.format.specs.Views.{view_of, same_kind, kind_number}
 use Rattle.format.specs.Words.{word_at}
@@ -21,14 +21,13 @@ use Rattle.format.specs.Parse.{got, and_then, skip, parts, read_signed, read_ter
 use Rattle.format.specs.Parse.{read_load}
 use Rattle.numerals.specs.internal.Offsets.{clamped, signed_at}
 use Rattle.numerals.proofs.CappedLaws.{capped_small, clamped_small, clamped_within}
-use Rattle.items.proofs.ItemLaws.{signed_none, byte_got, byte_none}
+use Rattle.numerals.proofs.OffsetLaws.{read_none}
+use Rattle.items.proofs.ItemLaws.{byte_got, byte_none}
 use Rattle.judging.specs.declared.reached.Reached.{Reached}
 use Rattle.judging.specs.Judging.{term_within, bound_within, rises_from, numbers_within}
 use Rattle.judging.specs.internal.Shapes.{capped_rise, parts_in, shape_of}
 use Rattle.lists.specs.declared.Parts.{Parts}
-use Rattle.lists.specs.declared.Parts.TheVariants.{Listed, NoList}
-use Rattle.lists.specs.internal.Lists.{Lists}
-use Rattle.forms.specs.declared.Line.TheVariants.{Formed, NoForm}
+use Rattle.lists.specs.internal.Lists.{parts_of, Lists}
 use Rattle.forms.specs.internal.Readers.{Forms}
 use Rattle.forms.proofs.Gathered.{gathered, gathered_none}
 use Rattle.forms.proofs.FormLaws.{signed_after, form_none, form_got}
@@ -49,39 +48,39 @@ unfolding read_load and_then
 load_got bs a b c d e = rw (a, b, c, d, e)
 
 load_shape :
-    (s : Reached) (lo hi : ℤ) (ts : List TermText) {low high : ℤ} {count : ℕ} {below above fine rise : Bool} →
+    (s : Reached) (lo hi : ℤ) (ts : List TermText) {low high : ℤ} {told : Parts} {below above : Bool} →
     low ≡ clamped lo → high ≡ clamped hi → below ≡ leb (nat_abs low) max_bound → above ≡ leb (nat_abs high) max_bound →
-    count ≡ length ts → fine ≡ all term_within ts → rise ≡ true →
-    record { kind = Load; size = 0; parts = count; within = (below && above) && fine; rising = rise } ≡ shape_of s (load_form lo hi ts)
-unfolding shape_of parts_in view_of same_kind kind_number bound_within capped_rise rises_from
-load_shape s lo hi ts d e b a n t r =
-    rw (b, a, d, e, n, t, r, load_numbers s lo hi ts, clamped_within lo max_bound (omega arith), clamped_within hi max_bound (omega arith), capped_small 0 (omega arith))
+    told ≡ parts_of term_within (λ ts. true) ts →
+    record { kind = Load; size = 0; parts = told.count; within = (below && above) && told.within; rising = told.ordered } ≡ shape_of s (load_form lo hi ts)
+unfolding parts_of shape_of parts_in view_of same_kind kind_number bound_within capped_rise rises_from
+load_shape s lo hi ts d e b a t =
+    rw (b, a, d, e, t, load_numbers s lo hi ts, clamped_within lo max_bound (omega arith), clamped_within hi max_bound (omega arith), capped_small 0 (omega arith))
 
 module _ {s : Reached} (text : List ℕ) (at : ℕ) {W : Form → Type 0} where
-  pub load_unspaced : word_at text at (space ∷ []) ≡ false → Forms s text (read_load (drop at text)) NoForm W
+  pub load_unspaced : word_at text at (space ∷ []) ≡ false → Forms s text (read_load (drop at text)) None W
   unfolding read_load and_then
   load_unspaced f = form_none s text (rw (byte_none text at space f))
 
   module _ (spaced : word_at text at (space ∷ []) ≡ true) where
-    pub load_lowless : signed_at text (at + 1) ≡ Malformed → Forms s text (read_load (drop at text)) NoForm W
+    pub load_lowless : signed_at text (at + 1) ≡ None → Forms s text (read_load (drop at text)) None W
     unfolding read_load and_then
-    load_lowless e = form_none s text (rw ((byte_got text at space spaced).0, signed_none text (at + 1) e))
+    load_lowless e = form_none s text (rw ((byte_got text at space spaced).0, read_none clamped read_signed text (at + 1) e))
 
-    module _ {low : ℤ} {after : ℕ} (lower : signed_at text (at + 1) ≡ Whole low after) where
-      pub load_one_bound : word_at text after (space ∷ []) ≡ false → Forms s text (read_load (drop at text)) NoForm W
+    module _ {low : ℤ} {after : ℕ} (lower : signed_at text (at + 1) ≡ Some (low, after)) where
+      pub load_one_bound : word_at text after (space ∷ []) ≡ false → Forms s text (read_load (drop at text)) None W
       unfolding read_load and_then
       load_one_bound f = form_none s text (rw ((byte_got text at space spaced).0, (signed_after text at spaced lower).2.reads, byte_none text after space f))
 
       module _ (again : word_at text after (space ∷ []) ≡ true) where
-        pub load_highless : signed_at text (after + 1) ≡ Malformed → Forms s text (read_load (drop at text)) NoForm W
+        pub load_highless : signed_at text (after + 1) ≡ None → Forms s text (read_load (drop at text)) None W
         unfolding read_load and_then
         load_highless e =
             form_none s text
-            (rw ((byte_got text at space spaced).0, (signed_after text at spaced lower).2.reads, (byte_got text after space again).0, signed_none text (after + 1) e))
+            (rw ((byte_got text at space spaced).0, (signed_after text at spaced lower).2.reads, (byte_got text after space again).0, read_none clamped read_signed text (after + 1) e))
 
-        module _ {high : ℤ} {next : ℕ} (upper : signed_at text (after + 1) ≡ Whole high next) {answer : Parts} {P : List TermText → Type 0}
+        module _ {high : ℤ} {next : ℕ} (upper : signed_at text (after + 1) ≡ Some (high, next)) {answer : Option (Parts × ℕ)} {P : List TermText → Type 0}
             (list : Lists text term_within (λ ts. true) (parts read_term (drop next text)) answer P) where
-          pub load_listless : answer ≡ NoList → Forms s text (read_load (drop at text)) NoForm W
+          pub load_listless : answer ≡ None → Forms s text (read_load (drop at text)) None W
           unfolding read_load and_then
           load_listless e =
               form_none s text
@@ -94,11 +93,11 @@ module _ {s : Reached} (text : List ℕ) (at : ℕ) {W : Form → Type 0} where
               ))
 
           pub load_formed :
-              {count end : ℕ} {fine rise below above : Bool} → below ≡ leb (nat_abs low) max_bound → above ≡ leb (nat_abs high) max_bound →
-              answer ≡ Listed count fine rise end →
-              ((lo hi : ℤ) (ts : List TermText) → low ≡ lo → high ≡ hi → count ≡ length ts → P ts → W (load_form lo hi ts)) →
+              {told : Parts} {end : ℕ} {below above : Bool} → below ≡ leb (nat_abs low) max_bound → above ≡ leb (nat_abs high) max_bound →
+              answer ≡ Some (told, end) →
+              ((lo hi : ℤ) (ts : List TermText) → low ≡ lo → high ≡ hi → told.count ≡ length ts → P ts → W (load_form lo hi ts)) →
               Forms s text (read_load (drop at text))
-              (Formed (record { kind = Load; size = 0; parts = count; within = (below && above) && fine; rising = rise }) end) W
+              (Some (record { kind = Load; size = 0; parts = told.count; within = (below && above) && told.within; rising = told.ordered }, end)) W
           unfolding bound_within
           load_formed b a e w =
               let g = gathered list e in
@@ -106,7 +105,7 @@ module _ {s : Reached} (text : List ℕ) (at : ℕ) {W : Form → Type 0} where
               let hi = signed_after text after again upper in
               form_got s text (load_form lo.0 hi.0 g.xs) g.rest
               (load_got (drop at text) (byte_got text at space spaced).0 lo.2.reads (byte_got text after space again).0 hi.2.reads g.reads)
-              (load_shape s lo.0 hi.0 g.xs lo.1 hi.1 b a g.counted g.tested g.rises) g.ended (λ good.
+              (load_shape s lo.0 hi.0 g.xs lo.1 hi.1 b a g.tells) g.ended (λ good.
               let within = rw load_numbers at good.within in
               let bounds = first _ (all term_within g.xs) within in
               let small = leb-true (nat_abs lo.0) max_bound (first _ (leb (nat_abs hi.0) max_bound) bounds) in

@@ -17,7 +17,8 @@ use Rattle.format.specs.Forms.{Form}
 use Rattle.format.specs.Views.{kind_in, same_kind}
 use Rattle.format.specs.declared.kinds.Kind.TheVariants.{Atoms}
 use Rattle.judging.specs.declared.reached.Reached.{Reached}
-use Rattle.judging.specs.States.{nothing_yet}
+use Rattle.judging.specs.declared.reached.Phase.TheVariants.{NothingYet}
+use Rattle.judging.specs.States.{rank}
 use Rattle.judging.specs.Judging.{atom_bound, may_follow, in_order}
 use Rattle.judging.proofs.Sequences.{may_follow_lem}
 use Rattle.lists.specs.internal.Lists.{marked}
@@ -100,7 +101,7 @@ pub named_bound : (s : Reached) (f : Form) → same_kind (kind_in f) Atoms ≡ f
 unfolding in_order atom_bound
 named_bound s f other t =
     let later = (may_follow_lem (kind_in f) s.phase (first (may_follow (kind_in f) s.phase) _ t)).later other in
-    rw (ne_eqb s.phase nothing_yet (λ e. omega arith))
+    rw (ne_eqb (rank s.phase) (rank NothingYet) (λ e. omega arith))
 
 -- What the atoms leave that are within their limits.
 pub named_laid :

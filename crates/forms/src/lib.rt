@@ -16,35 +16,34 @@ ghost use Rattle.forms.specs.internal.Readers.{Forms};
 
 use format::kinds::Kind;
 use format::words::byte_at;
-use judging::reached::{NOTHING_YET, Reached, Shape, groups_reached};
+use judging::reached::{Phase, Reached, Shape, groups_reached};
 use lists::stores::{clear, store_clause, store_load, store_rule};
 use lists::{Parts, read_atoms, read_literals, read_pairs, read_terms};
-use numerals::numbers::{Number, read_number};
-use numerals::signed::{Signed, read_signed};
+use numerals::numbers::read_number;
+use numerals::signed::read_signed;
 use tables::load_rows::MAX_BOUND;
 use tables::sizes::MAX_ATOMS;
 
-// The shape of a line's form with the offset after it; or no form.
-#[derive(Drop)]
-pub enum Line {
-    Formed(Shape, usize),
-    NoForm,
-}
-
-// `N)` of `(atoms N)`. The mark of each atom is put to 0.
-pub fn read_atoms_form(text: &[u8], at: usize, reached: Reached, marks: &mut [u8]) -> Line
+// `N)` of `(atoms N)`. The mark of each atom is put to 0. What is answered is the form's shape with the offset after it, or that there is no form;
+// so it is by all that follow.
+pub fn read_atoms_form(
+    text: &[u8],
+    at: usize,
+    reached: Reached,
+    marks: &mut [u8],
+) -> Option<(Shape, usize)>
     requires { Inside text.now at }
     ensures { Forms reached text.now (read_atoms (drop at text.now)) result
         (λ f. marks.new ≡ sets marks.old 0 (marks_given reached f)) }
 {
     if !byte_at(text, at, b' ') {
-        return Line::NoForm;
+        return None;
     }
-    let Number::Read(size, next) = read_number(text, at + 1) else {
-        return Line::NoForm;
+    let Some((size, next)) = read_number(text, at + 1) else {
+        return None;
     };
     if !byte_at(text, next, b')') {
-        return Line::NoForm;
+        return None;
     }
     clear(marks, size);
     let shape = Shape {
@@ -54,7 +53,7 @@ pub fn read_atoms_form(text: &[u8], at: usize, reached: Reached, marks: &mut [u8
         within: size <= MAX_ATOMS,
         rising: true,
     };
-    Line::Formed(shape, next + 1)
+    Some((shape, next + 1))
 }
 
 // `H L ..)` of `(rule H L ..)`.
@@ -64,7 +63,7 @@ pub fn read_rule_form(
     reached: Reached,
     rules: &mut [u16],
     literals: &mut [u16],
-) -> Line
+) -> Option<(Shape, usize)>
     requires inside { Inside text.now at }
     requires reached_value { counts_within reached ≡ true }
     ensures { Forms reached text.now (read_rule (drop at text.now)) result
@@ -72,25 +71,22 @@ pub fn read_rule_form(
         × (literals.new ≡ sets literals.old reached.literals (map literal_code (literals_in f)))) }
 {
     if !byte_at(text, at, b' ') {
-        return Line::NoForm;
+        return None;
     }
-    let Number::Read(head, next) = read_number(text, at + 1) else {
-        return Line::NoForm;
+    let Some((head, next)) = read_number(text, at + 1) else {
+        return None;
     };
     let start = reached.literals;
-    let Parts::Listed(parts, within, rising, end) = read_literals(text, next, literals, start)
-    else {
-        return Line::NoForm;
-    };
-    store_rule(rules, reached.rules, head, start, parts);
+    let (parts, end) = read_literals(text, next, literals, start)?;
+    store_rule(rules, reached.rules, head, start, parts.count);
     let shape = Shape {
         kind: Kind::Rule,
         size: 0,
-        parts,
-        within: (head < MAX_ATOMS) & within,
-        rising,
+        parts: parts.count,
+        within: (head < MAX_ATOMS) & parts.within,
+        rising: parts.ordered,
     };
-    Line::Formed(shape, end)
+    Some((shape, end))
 }
 
 // `L ..)` of `(clause L ..)`.
@@ -100,7 +96,7 @@ pub fn read_clause_form(
     reached: Reached,
     clauses: &mut [u16],
     literals: &mut [u16],
-) -> Line
+) -> Option<(Shape, usize)>
     requires inside { Inside text.now at }
     requires reached_value { counts_within reached ≡ true }
     ensures { Forms reached text.now (read_clause (drop at text.now)) result
@@ -108,25 +104,23 @@ pub fn read_clause_form(
         × (literals.new ≡ sets literals.old reached.literals (map literal_code (literals_in f)))) }
 {
     let start = reached.literals;
-    let Parts::Listed(parts, within, rising, end) = read_literals(text, at, literals, start) else {
-        return Line::NoForm;
-    };
-    store_clause(clauses, reached.clauses, start, parts);
+    let (parts, end) = read_literals(text, at, literals, start)?;
+    store_clause(clauses, reached.clauses, start, parts.count);
     let shape = Shape {
         kind: Kind::Clause,
         size: 0,
-        parts,
-        within,
-        rising,
+        parts: parts.count,
+        within: parts.within,
+        rising: parts.ordered,
     };
-    Line::Formed(shape, end)
+    Some((shape, end))
 }
 
 // Whether a bound of a load line is within its limits.
 fn bound_within(bound: i32) -> bool
     ensures { result ≡ leb (nat_abs bound) max_bound }
 {
-    (-MAX_BOUND <= bound) & (bound <= MAX_BOUND)
+    bound.unsigned_abs() <= MAX_BOUND
 }
 
 // `LO HI (M L) ..)` of `(load LO HI (M L) ..)`.
@@ -137,7 +131,7 @@ pub fn read_load_form(
     loads: &mut [i32],
     load_literals: &mut [u16],
     minutes: &mut [i16],
-) -> Line
+) -> Option<(Shape, usize)>
     requires inside { Inside text.now at }
     requires reached_value { counts_within reached ≡ true }
     ensures { Forms reached text.now (read_load (drop at text.now)) result
@@ -147,44 +141,32 @@ pub fn read_load_form(
         × (minutes.new ≡ sets minutes.old reached.terms (map (λ (t : TermText). t.minutes) (terms_in f)))) }
 {
     if !byte_at(text, at, b' ') {
-        return Line::NoForm;
+        return None;
     }
-    let Signed::Whole(low, after) = read_signed(text, at + 1) else {
-        return Line::NoForm;
-    };
+    let (low, after) = read_signed(text, at + 1)?;
     if !byte_at(text, after, b' ') {
-        return Line::NoForm;
+        return None;
     }
-    let Signed::Whole(high, next) = read_signed(text, after + 1) else {
-        return Line::NoForm;
-    };
+    let (high, next) = read_signed(text, after + 1)?;
     let start = reached.terms;
-    let Parts::Listed(parts, within, rising, end) = read_terms(
-        text,
-        next,
-        load_literals,
-        minutes,
-        start,
-    ) else {
-        return Line::NoForm;
-    };
-    store_load(loads, reached.loads, low, high, start, parts);
+    let (parts, end) = read_terms(text, next, load_literals, minutes, start)?;
+    store_load(loads, reached.loads, low, high, start, parts.count);
     let bounds = bound_within(low) & bound_within(high);
     let shape = Shape {
         kind: Kind::Load,
         size: 0,
-        parts,
-        within: bounds & within,
-        rising,
+        parts: parts.count,
+        within: bounds & parts.within,
+        rising: parts.ordered,
     };
-    Line::Formed(shape, end)
+    Some((shape, end))
 }
 
 // The bound of named atoms: N, or before an atoms line the most atoms that a book has.
 fn atom_bound(reached: Reached) -> usize
     ensures { result ≡ atom_bound reached }
 {
-    if reached.phase == NOTHING_YET {
+    if reached.phase == Phase::NothingYet {
         MAX_ATOMS
     } else {
         reached.size
@@ -192,7 +174,7 @@ fn atom_bound(reached: Reached) -> usize
 }
 
 // The atoms that a form names, each marked in a table with an entry for each atom. Before that all are put to 0.
-fn read_named(text: &[u8], at: usize, reached: Reached, table: &mut [u8]) -> Parts
+fn read_named(text: &[u8], at: usize, reached: Reached, table: &mut [u8]) -> Option<(Parts, usize)>
     requires inside { Inside text.now at }
     requires size_le_max_atoms { reached.size ≤ max_atoms }
     ensures { Lists text.now (λ atom. ltb atom (atom_bound reached)) capped_rise (parts read_number (drop at text.now)) result
@@ -203,46 +185,52 @@ fn read_named(text: &[u8], at: usize, reached: Reached, table: &mut [u8]) -> Par
 }
 
 // `A ..)` of `(open A ..)`.
-pub fn read_open_form(text: &[u8], at: usize, reached: Reached, values: &mut [u8]) -> Line
+pub fn read_open_form(
+    text: &[u8],
+    at: usize,
+    reached: Reached,
+    values: &mut [u8],
+) -> Option<(Shape, usize)>
     requires inside { Inside text.now at }
     requires size_le_max_atoms { reached.size ≤ max_atoms }
     ensures { Forms reached text.now (read_open (drop at text.now)) result
         (λ f. values.new ≡ sets values.old 0 (state_values reached f)) }
 {
-    let Parts::Listed(parts, within, rising, end) = read_named(text, at, reached, values) else {
-        return Line::NoForm;
-    };
+    let (parts, end) = read_named(text, at, reached, values)?;
     let shape = Shape {
         kind: Kind::Open,
         size: 0,
-        parts,
-        within,
-        rising,
+        parts: parts.count,
+        within: parts.within,
+        rising: parts.ordered,
     };
-    Line::Formed(shape, end)
+    Some((shape, end))
 }
 
 // `A ..)` of `(defined A ..)`: there is at least one atom.
-pub fn read_defined_form(text: &[u8], at: usize, reached: Reached, marks: &mut [u8]) -> Line
+pub fn read_defined_form(
+    text: &[u8],
+    at: usize,
+    reached: Reached,
+    marks: &mut [u8],
+) -> Option<(Shape, usize)>
     requires inside { Inside text.now at }
     requires size_le_max_atoms { reached.size ≤ max_atoms }
     ensures { Forms reached text.now (read_defined (drop at text.now)) result
         (λ f. marks.new ≡ sets marks.old 0 (marks_given reached f)) }
 {
-    let Parts::Listed(parts, within, rising, end) = read_named(text, at, reached, marks) else {
-        return Line::NoForm;
-    };
-    if parts == 0 {
-        return Line::NoForm;
+    let (parts, end) = read_named(text, at, reached, marks)?;
+    if parts.count == 0 {
+        return None;
     }
     let shape = Shape {
         kind: Kind::Defined,
         size: 0,
-        parts,
-        within,
-        rising,
+        parts: parts.count,
+        within: parts.within,
+        rising: parts.ordered,
     };
-    Line::Formed(shape, end)
+    Some((shape, end))
 }
 
 // `(V K ..) ..)` of `(claim (V K ..) ..)`: each pair has a level for each group.
@@ -252,7 +240,7 @@ pub fn read_claim_form(
     reached: Reached,
     values: &mut [u8],
     levels: &mut [u16],
-) -> Line
+) -> Option<(Shape, usize)>
     requires inside { Inside text.now at }
     requires size_le_max_atoms { reached.size ≤ max_atoms }
     ensures { Forms reached text.now (if_levelled reached (read_claim (drop at text.now))) result
@@ -261,20 +249,16 @@ pub fn read_claim_form(
 {
     let groups = groups_reached(reached);
     let size = reached.size;
-    let Parts::Listed(parts, within, levelled, end) = read_pairs(
-        text, at, groups, size, values, levels,
-    ) else {
-        return Line::NoForm;
-    };
-    if !levelled {
-        return Line::NoForm;
+    let (parts, end) = read_pairs(text, at, groups, size, values, levels)?;
+    if !parts.ordered {
+        return None;
     }
     let shape = Shape {
         kind: Kind::Claim,
         size: 0,
-        parts,
-        within: within & (parts <= MAX_ATOMS),
+        parts: parts.count,
+        within: parts.within & (parts.count <= MAX_ATOMS),
         rising: true,
     };
-    Line::Formed(shape, end)
+    Some((shape, end))
 }

@@ -7,10 +7,14 @@ use mathlib.Core.Bool.{Bool, true, false, not, cond, ◌||◌}
 use mathlib.Core.List.{List}
 use native.Mathlib.Numerals.{add-one}
 use native.Mathlib.Omega.{arith}
-use lib.Dec.{eqb}
+use lib.Dec.{eqb, ltb}
+use mir.Val.{bool_byte}
+use denote.Ref.{Bor}
+use Rattle.std.specs.Prelude.{Option, None, Some, is_some, unwrap_or}
+use Rattle.std.specs.Option.{option_eq, option_map}
 use lib.ListN.{length, get_or, set, length-set}
 use lib.Seq.{get_or-set_same, get_or-set_other, set_out}
-use borrow.Author.Tests.{eqb-true, eqb-false, ne_eqb}
+use borrow.Author.Tests.{eqb-true, eqb-false, ne_eqb, ltb-true, ltb-false}
 use Rattle.wellfounded.specs.Lists.{iterate}
 use Rattle.wellfounded.specs.Literals.{is_true, value_at}
 use Rattle.wellfounded.proofs.Tests.{decided}
@@ -19,7 +23,7 @@ use Rattle.wellfounded.proofs.Reaches.{Reaches, reaches_start, reaches_turn, rea
 use Rattle.wellfounded.proofs.Literals.{value_beyond}
 use Rattle.tables.specs.Rows.{rule_count, rule_head}
 use Rattle.tables.specs.internal.Marks.{is_marked}
-use Rattle.tables.proofs.MarkLaws.{head_left, head_put, head_again}
+use Rattle.tables.proofs.MarkLaws.{true_at, head_left, head_put, head_again}
 use Rattle.founding.specs.internal.Founding.{row_founds, found_row, found_rows, found_pass, found_start, found_all, unmarked, PassDone}
 
 -- ── The marks to begin with ──
@@ -28,6 +32,19 @@ use Rattle.founding.specs.internal.Founding.{row_founds, found_row, found_rows, 
 pub beyond_untrue : (values : List ℕ) (atom : ℕ) → length values ≤ atom → is_true (value_at values atom) ≡ false
 unfolding is_true
 beyond_untrue values atom h = ap is_true (value_beyond values atom h)
+
+-- The code looks the value up, and compares what it finds.
+pub true_told :
+    (values : List ℕ) (atom : ℕ) (found : Option (Bor ℕ)) (wanted : Bor ℕ) → wanted.now ≡ 1 → is_some found ≡ ltb atom (length values) →
+    unwrap_or (option_map (λ (b : Bor ℕ). b.now) found) 0 ≡ get_or values atom 0 →
+    option_eq (λ (x y : Bor ℕ). eqb x.now y.now) found (Some wanted) ≡ is_true (value_at values atom)
+true_told values atom None wanted is inside got = sym (beyond_untrue values atom (ltb-false _ _ (sym inside)))
+true_told values atom (Some b) wanted is inside got = rw (is, got) (sym (true_at values atom (ltb-true _ _ (sym inside))))
+
+-- A truth value as a number.
+pub as_number : (b : Bool) → bool_byte b ≡ cond b 1 0
+as_number true = refl
+as_number false = refl
 
 -- An atom's mark to begin with.
 abbrev pub start_mark : List ℕ → List ℕ → ℕ → ℕ

@@ -22,27 +22,18 @@ fn literal_founds(literal: u16, values: &[u8], founded: &[u8]) -> bool
     !literal_false(literal, values) & (is_negated(literal) | (founded[atom] == 1))
 }
 
-// Whether the first `size` literals all leave the head founded.
-fn literals_found(literals: &[u16], size: usize, values: &[u8], founded: &[u8]) -> bool
-    requires { (Scannable literals.now 0 size (length values.now)) × (length values.now ≤ length founded.now) }
-    ensures { result ≡ all (founds values.now founded.now) (body_at literals.now 0 size) }
-{
-    let mut i = 0;
-    while i < size {
-        if !literal_founds(literals[i], values, founded) {
-            return false;
-        }
-        i += 1;
-    }
-    true
-}
-
 // Whether the literals of the body that begins at `start` all leave the head founded.
 fn body_founds(literals: &[u16], start: usize, size: usize, values: &[u8], founded: &[u8]) -> bool
     requires { (Scannable literals.now start size (length values.now)) × (length values.now ≤ length founded.now) }
     ensures { result ≡ all (founds values.now founded.now) (body_at literals.now start size) }
 {
-    literals_found(&literals[start..], size, values, founded)
+    // The library's `all` is slower here: the machine's code for it has one more branch for each literal.
+    for literal in &literals[start..start + size] {
+        if !literal_founds(*literal, values, founded) {
+            return false;
+        }
+    }
+    true
 }
 
 // Looks at one row: marks its head if the row founds it and it is not marked yet. Answers whether it marked it. The head's value and
@@ -72,14 +63,11 @@ fn found_pass(rules: &[u16], literals: &[u16], values: &[u8], founded: &mut [u8]
     requires { Markable rules.now literals.now values.now founded.old }
     ensures { PassDone rules.now literals.now values.now founded.old founded.new result }
 {
-    let rows = rule_count(rules);
     let mut marked = 0;
-    let mut row = 0;
-    while row < rows {
+    for row in 0..rule_count(rules) {
         if found_row(rules, row, literals, values, founded) {
             marked += 1;
         }
-        row += 1;
     }
     marked
 }
@@ -89,13 +77,7 @@ fn start_mark(atom: usize, defined: &[u8], values: &[u8]) -> u8
     requires { atom < length defined.now }
     ensures { result ≡ cond (not (is_marked defined.now atom) || is_true (value_at values.now atom)) 1 0 }
 {
-    if defined[atom] != 1 {
-        return 1;
-    }
-    if atom >= values.len() {
-        return 0;
-    }
-    if values[atom] == 1 { 1 } else { 0 }
+    (defined[atom] != 1 || values.get(atom) == Some(&1)) as u8
 }
 
 // Marks the atoms that are founded to begin with: the open ones and the true ones.
@@ -103,10 +85,8 @@ fn found_start(defined: &[u8], values: &[u8], founded: &mut [u8])
     requires { (length values.now ≤ length founded.old) × (length founded.old ≡ length defined.now) }
     ensures { founded.new ≡ found_start defined.now values.now founded.old }
 {
-    let mut atom = 0;
-    while atom < founded.len() {
-        founded[atom] = start_mark(atom, defined, values);
-        atom += 1;
+    for (atom, mark) in founded.iter_mut().enumerate() {
+        *mark = start_mark(atom, defined, values);
     }
 }
 

@@ -17,16 +17,16 @@ use Rattle.wellfounded.specs.Levels.{Obeys}
 use Rattle.wellfounded.proofs.Tests.{clash}
 use Rattle.wellfounded.proofs.Closure.{model_length, stages_length}
 use Rattle.wellfounded.proofs.Theorems.{complete}
-use Rattle.tables.specs.declared.Found.{Found}
-use Rattle.tables.specs.declared.Found.TheVariants.{At, Nothing}
+use Rattle.std.specs.declared.option.Option.{Option}
+use Rattle.std.specs.declared.option.Option.TheVariants.{Some, None}
 use Rattle.tables.specs.declared.Fault.{Fault}
 use Rattle.tables.specs.declared.Fault.TheVariants.{Undecided}
-use Rattle.tables.specs.declared.Verdict.{Verdict}
-use Rattle.tables.specs.declared.Verdict.TheVariants.{Accepted, Refused}
+use Rattle.std.specs.declared.result.Result.TheVariants.{Ok, Err}
+use Rattle.tables.specs.Faults.{Verdict, accepted, refused}
 use Rattle.tables.specs.Faults.{Absent, first_fault, lowest, number_of, fault_number}
 use Rattle.tables.specs.Sound.{Tables, group_of, book_of, group_levels, Slice, claim_slices, slice_test, lent_tests, Sound}
 use Rattle.satisfaction.specs.Satisfied.{clause_test, load_test, satisfaction_tests}
-use Rattle.tables.proofs.Faults.{lowest_at, lowest_found, first_passes, first_fails, absent_none, absent_more, accepted_absent, absent_accepted, refused_among, first_append, first_append_refused}
+use Rattle.tables.proofs.Faults.{lowest_at, lowest_found, first_passes, first_fails, absent_none, absent_more, accepted_absent, absent_accepted, refused_among, refused_position, first_append, first_append_refused}
 use Rattle.tables.proofs.GroupLaws.{one_group, whole_part}
 use Rattle.tables.proofs.RowLaws.{group_size, book_size}
 use Rattle.tables.proofs.SoundTables.{slices_absent, sized_none, sized_more, lent_tables_lem, lent_marks, lent_none}
@@ -42,7 +42,7 @@ use Rattle.guarantees.specs.Settings.{LentSetting, maker_slices, stop_tests, Goo
 -- ── The model's faults ──
 
 -- A failing clause or load line comes after an undecided atom.
-decided_first : (t : Tables) (values : List ℕ) (position : ℕ) → first_fault (satisfaction_tests t values) ≡ Refused Undecided position → ⊥
+decided_first : (t : Tables) (values : List ℕ) (position : ℕ) → first_fault (satisfaction_tests t values) ≡ refused Undecided position → ⊥
 unfolding satisfaction_tests clause_test load_test all
 decided_first t values position e =
     false≢true (refused_among (λ f. ltb (fault_number Undecided) (fault_number f)) (satisfaction_tests t values) refl Undecided position e)
@@ -50,7 +50,7 @@ decided_first t values position e =
 -- 25 at a position exactly if that is the lowest atom that the values leave undecided.
 pub undecided_at :
     (t : Tables) (values : List ℕ) (p : ℕ) →
-    (first_fault (model_tests t values) ≡ Refused Undecided p) ↔
+    (first_fault (model_tests t values) ≡ refused Undecided p) ↔
     ((p < t.atoms) × (is_held (value_at values p) ≡ false) × ((a : ℕ) → a < p → is_held (value_at values a) ≡ true))
 unfolding model_tests undecided_test not_held
 undecided_at t values p = (
@@ -59,21 +59,21 @@ undecided_at t values p = (
 )
   where
     says :
-        (found : Found) → lowest t.atoms (not_held values) ≡ found → first_fault (model_tests t values) ≡ Refused Undecided p →
+        (found : Option ℕ) → lowest t.atoms (not_held values) ≡ found → first_fault (model_tests t values) ≡ refused Undecided p →
         (p < t.atoms) × (is_held (value_at values p) ≡ false) × ((a : ℕ) → a < p → is_held (value_at values a) ≡ true)
-    says (At q) found e =
-        let same : Refused Undecided q ≡ Refused Undecided p = sym (first_fails (undecided_test t.atoms values) _ q found) ∙ e in
-        let at : q ≡ p = cc in
-        let low = lowest_at (not_held values) t.atoms p (found ∙ ap At at) in
+    says (Some q) found e =
+        let same : refused Undecided q ≡ refused Undecided p = sym (first_fails (undecided_test t.atoms values) _ q found) ∙ e in
+        let at : q ≡ p = refused_position same in
+        let low = lowest_at (not_held values) t.atoms p (found ∙ ap Some at) in
         (low.0, not-true _ low.1, λ a l. not-false _ (low.2 a l))
-    says Nothing found e =
+    says None found e =
         absurd (decided_first t values p (sym (first_passes (undecided_test t.atoms values) _ found) ∙ e))
 
 -- ── What the maker is lent ──
 
 pub lent_passes :
     (t : Tables) (o v l w : List ℕ) → LentSetting (book_of t) o → Sound t (maker_slices t o v l w) →
-    first_fault (stop_tests t o v l w) ≡ Accepted
+    first_fault (stop_tests t o v l w) ≡ accepted
 unfolding stop_tests refusal_tests
 lent_passes t o v l w lent sound =
     first_append (lent_tests t (maker_slices t o v l w)) _ (absent_accepted _ sound.none)
@@ -82,13 +82,13 @@ lent_passes t o v l w lent sound =
 -- ── What the maker leaves ──
 
 module _ (t : Tables) (o v l w : List ℕ) where
-  pub passed_made : first_fault (stop_tests t o v l w) ≡ Accepted → evaluate_of t o v l w ≡ evaluated t o
+  pub passed_made : first_fault (stop_tests t o v l w) ≡ accepted → evaluate_of t o v l w ≡ evaluated t o
   unfolding evaluate_of stopped_or stop_tests
   passed_made e = rw e
 
   pub refused_stopped :
-      (fault : Fault) (position : ℕ) → first_fault (stop_tests t o v l w) ≡ Refused fault position →
-      evaluate_of t o v l w ≡ record { verdict = Refused fault position; rounds = 0; values = v; levels = l; work = w }
+      (fault : Fault) (position : ℕ) → first_fault (stop_tests t o v l w) ≡ refused fault position →
+      evaluate_of t o v l w ≡ record { verdict = refused fault position; rounds = 0; values = v; levels = l; work = w }
   unfolding evaluate_of stopped_or stop_tests
   refused_stopped fault position e = rw e
 
@@ -100,32 +100,32 @@ module _ (t : Tables) (o v l w : List ℕ) where
       step :
           (x : Verdict) → first_fault (stop_tests t o v l w) ≡ x →
           (evaluate_of t o v l w).verdict ≡ first_fault (stop_tests t o v l w ++ model_tests t (well_founded_model (book_of t) o))
-      step Accepted e = ap (λ (y : Evaluation). y.verdict) (passed_made e) ∙ sym (first_append (stop_tests t o v l w) _ e)
-      step (Refused fault position) e =
-          ap (λ (y : Evaluation). y.verdict) (refused_stopped fault position e)
-          ∙ sym (first_append_refused (stop_tests t o v l w) _ fault position e)
+      step (Ok nothing) e = ap (λ (y : Evaluation). y.verdict) (passed_made e) ∙ sym (first_append (stop_tests t o v l w) _ e)
+      step (Err r) e =
+          ap (λ (y : Evaluation). y.verdict) (refused_stopped r.fault r.position e)
+          ∙ sym (first_append_refused (stop_tests t o v l w) _ r.fault r.position e)
 
   -- By its verdict: a fault that is no model's stopped it, else it made the model.
   pub stopped_by :
-      (fault : Fault) (position : ℕ) → (evaluate_of t o v l w).verdict ≡ Refused fault position → model_fault fault ≡ false →
-      first_fault (stop_tests t o v l w) ≡ Refused fault position
+      (fault : Fault) (position : ℕ) → (evaluate_of t o v l w).verdict ≡ refused fault position → model_fault fault ≡ false →
+      first_fault (stop_tests t o v l w) ≡ refused fault position
   unfolding evaluated is_made
   stopped_by fault position e unmade = step (first_fault (stop_tests t o v l w)) refl
     where
-      step : (x : Verdict) → first_fault (stop_tests t o v l w) ≡ x → first_fault (stop_tests t o v l w) ≡ Refused fault position
-      step Accepted passed =
+      step : (x : Verdict) → first_fault (stop_tests t o v l w) ≡ x → first_fault (stop_tests t o v l w) ≡ refused fault position
+      step (Ok nothing) passed =
           let verdict = sym (ap (λ (y : Evaluation). y.verdict) (passed_made passed)) ∙ e in
           absurd (clash (rw verdict at (model_made t (well_founded_model (book_of t) o))) unmade)
-      step (Refused g q) stopped = stopped ∙ sym (ap (λ (y : Evaluation). y.verdict) (refused_stopped g q stopped)) ∙ e
+      step (Err r) stopped = stopped ∙ sym (ap (λ (y : Evaluation). y.verdict) (refused_stopped r.fault r.position stopped)) ∙ e
 
   pub made_by : is_made (evaluate_of t o v l w).verdict ≡ true → evaluate_of t o v l w ≡ evaluated t o
   unfolding stop_tests is_made
   made_by made = step (first_fault (stop_tests t o v l w)) refl
     where
       step : (x : Verdict) → first_fault (stop_tests t o v l w) ≡ x → evaluate_of t o v l w ≡ evaluated t o
-      step Accepted passed = passed_made passed
-      step (Refused fault position) stopped =
-          absurd (clash (rw (refused_stopped fault position stopped) at made) (stopped_unmade t o _ fault position stopped))
+      step (Ok nothing) passed = passed_made passed
+      step (Err r) stopped =
+          absurd (clash (rw (refused_stopped r.fault r.position stopped) at made) (stopped_unmade t o _ r.fault r.position stopped))
 
 -- ── The model and its verdict ──
 
@@ -139,7 +139,7 @@ two_valued_lem t group two =
     }
 
 module _ (t : Tables) (o : List ℕ) where
-  pub accepted_good : first_fault (model_tests t (well_founded_model (book_of t) o)) ≡ Accepted → Good t o
+  pub accepted_good : first_fault (model_tests t (well_founded_model (book_of t) o)) ≡ accepted → Good t o
   unfolding model_tests undecided_test not_held
   accepted_good e =
       let none = accepted_absent (model_tests t (well_founded_model (book_of t) o)) e in
@@ -151,7 +151,7 @@ module _ (t : Tables) (o : List ℕ) where
         satisfied = absent_satisfies t _ (λ test m. none test (Memᴰ.tail m));
       }
 
-  pub good_accepted : Good t o → first_fault (model_tests t (well_founded_model (book_of t) o)) ≡ Accepted
+  pub good_accepted : Good t o → first_fault (model_tests t (well_founded_model (book_of t) o)) ≡ accepted
   unfolding model_tests undecided_test not_held
   good_accepted good =
       absent_accepted _

@@ -14,8 +14,8 @@ use Rattle.wellfounded.proofs.Definitions.{open_below}
 use Rattle.wellfounded.proofs.Soundness.{same_setting_refl}
 use Rattle.tables.specs.declared.Fault.{Fault}
 use Rattle.tables.specs.declared.Fault.TheVariants.{Undecided}
-use Rattle.tables.specs.declared.Verdict.{Verdict}
-use Rattle.tables.specs.declared.Verdict.TheVariants.{Accepted, Refused}
+use Rattle.std.specs.declared.result.Result.TheVariants.{Ok, Err}
+use Rattle.tables.specs.Faults.{Verdict, refused}
 use Rattle.tables.specs.Faults.{Absent, first_fault, number_of, position_of, fault_number, RefusedBy}
 use Rattle.tables.specs.Rows.{group_count, heads_rule, is_declared}
 use Rattle.tables.specs.Sound.{Tables, group_of, book_of, group_levels, Sound}
@@ -188,8 +188,8 @@ module _ (t : Tables) (o v l w : List ℕ) where
 
   -- A fault of 11 to 17, 31 or 21 is answered, nothing is written and rounds is 0,
   pub stopped :
-      (fault : Fault) (position : ℕ) → first_fault (stop_tests t o v l w) ≡ Refused fault position →
-      ((evaluate_of t o v l w).verdict ≡ Refused fault position) × Unwritten v l w (evaluate_of t o v l w)
+      (fault : Fault) (position : ℕ) → first_fault (stop_tests t o v l w) ≡ refused fault position →
+      ((evaluate_of t o v l w).verdict ≡ refused fault position) × Unwritten v l w (evaluate_of t o v l w)
   stopped fault position e =
       rw (refused_stopped t o v l w fault position e) (refl, record { values = refl; levels = refl; work = refl; rounds = refl })
 
@@ -215,8 +215,8 @@ module _ (t : Tables) (o v l w : List ℕ) where
   leaves unmade = step (evaluate_of t o v l w).verdict refl
     where
       step : (x : Verdict) → (evaluate_of t o v l w).verdict ≡ x → Unwritten v l w (evaluate_of t o v l w)
-      step Accepted e = absurd (false≢true (sym (rw e at unmade)))
-      step (Refused fault position) e = (stopped fault position (stopped_by t o v l w fault position e (rw e at unmade))).1
+      step (Ok nothing) e = absurd (false≢true (sym (rw e at unmade)))
+      step (Err r) e = (stopped r.fault r.position (stopped_by t o v l w r.fault r.position e (rw e at unmade))).1
 
 -- The two calls in turn keep all of this: the contract of `evaluate_and_check`.
 pub made_and_checked :

@@ -3,7 +3,7 @@ use Rattle.std.specs.Prelude.{ℕ, ◌<◌, ◌≡◌, ◌↔◌, true, List, le
 use Rattle.wellfounded.specs.Literals.{value_at}
 use Rattle.wellfounded.specs.Definitions.{Definition, is_defined}
 use Rattle.wellfounded.specs.Stages.{stage, closure, well_founded_model, stage_of, stages_of, TwoValued, Setting}
-use Rattle.tables.specs.declared.Verdict.{Verdict}
+use Rattle.tables.specs.Faults.{Verdict}
 use Rattle.tables.specs.Faults.{Test, number_of}
 use Rattle.tables.specs.Rows.{group_count}
 use Rattle.tables.specs.Sound.{Tables, group_of, book_of, Slice, Sound}

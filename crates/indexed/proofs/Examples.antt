@@ -5,7 +5,7 @@ use Prim.Native.Nat.{ℕ}
 use mathlib.Core.Path.{◌≡◌, refl}
 use mathlib.Core.List.{List, [], ◌∷◌}
 use Rattle.tables.specs.declared.Fault.TheVariants.{SliceLength, Mark, IndexSize, Value, Undecided}
-use Rattle.tables.specs.declared.Verdict.TheVariants.{Refused}
+use Rattle.tables.specs.Faults.{refused}
 use Rattle.tables.specs.Sound.{Tables, lent}
 use Rattle.indexed.specs.EvaluateIndexed.{IndexedSlices, indexed_stop, evaluate_indexed_of, model_counts}
 use Rattle.indexed.proofs.Computes.{computes}
@@ -50,28 +50,28 @@ counts_of_true = refl
 -- Two atoms stay undecided, so the verdict is 25 at the first of them.
 pub evaluation_of_true :
     evaluate_indexed_of (book unmarked) (slices 1 nine (9 ∷ 9 ∷ 9 ∷ []))
-    ≡ record { verdict = Refused Undecided 2; rounds = 1; values = 1 ∷ 1 ∷ 2 ∷ 2 ∷ []; levels = 0 ∷ 1 ∷ 0 ∷ 0 ∷ []; work = 0 ∷ 0 ∷ 0 ∷ 0 ∷ [] }
+    ≡ record { verdict = refused Undecided 2; rounds = 1; values = 1 ∷ 1 ∷ 2 ∷ 2 ∷ []; levels = 0 ∷ 1 ∷ 0 ∷ 0 ∷ []; work = 0 ∷ 0 ∷ 0 ∷ 0 ∷ [] }
 unfolding computes book unmarked slices nine
 evaluation_of_true = refl
 
 -- An open value of 2 is 21;
-pub value_stops : indexed_stop (book unmarked) (slices 2 nine (9 ∷ 9 ∷ 9 ∷ [])) ≡ Refused Value 0
+pub value_stops : indexed_stop (book unmarked) (slices 2 nine (9 ∷ 9 ∷ 9 ∷ [])) ≡ refused Value 0
 unfolding computes book unmarked slices nine
 value_stops = refl
 
 -- a start too few comes before it,
-pub index_before_value : indexed_stop (book unmarked) (slices 2 eight (9 ∷ 9 ∷ 9 ∷ [])) ≡ Refused IndexSize 0
+pub index_before_value : indexed_stop (book unmarked) (slices 2 eight (9 ∷ 9 ∷ 9 ∷ [])) ≡ refused IndexSize 0
 unfolding computes book unmarked slices eight
 index_before_value = refl
 
 -- a bad mark before that,
-pub mark_before_index : indexed_stop (book (0 ∷ 0 ∷ 0 ∷ 2 ∷ [])) (slices 2 eight (9 ∷ 9 ∷ 9 ∷ [])) ≡ Refused Mark 3
+pub mark_before_index : indexed_stop (book (0 ∷ 0 ∷ 0 ∷ 2 ∷ [])) (slices 2 eight (9 ∷ 9 ∷ 9 ∷ [])) ≡ refused Mark 3
 unfolding computes book slices eight
 mark_before_index = refl
 
 -- and a count too few before all of them. Values, levels and work are as they were then.
 pub counts_before_mark :
     evaluate_indexed_of (book (0 ∷ 0 ∷ 0 ∷ 2 ∷ [])) (slices 2 eight (9 ∷ 9 ∷ []))
-    ≡ record { verdict = Refused SliceLength 0; rounds = 0; values = 9 ∷ 9 ∷ 9 ∷ 9 ∷ []; levels = 9 ∷ 9 ∷ 9 ∷ 9 ∷ []; work = 9 ∷ 9 ∷ 9 ∷ 9 ∷ [] }
+    ≡ record { verdict = refused SliceLength 0; rounds = 0; values = 9 ∷ 9 ∷ 9 ∷ 9 ∷ []; levels = 9 ∷ 9 ∷ 9 ∷ 9 ∷ []; work = 9 ∷ 9 ∷ 9 ∷ 9 ∷ [] }
 unfolding computes book slices eight
 counts_before_mark = refl

@@ -1,193 +1,79 @@
--- The maker that follows the index, step by step: its verdict test by test, what is left for the rules to be followed, and what each step comes to.
+-- The maker that follows the index, step by step: its verdict before the setting, what making a model comes to, and its answer.
 -- Assumes nothing.
 use Prim.Native.Nat.{ℕ, ◌*◌, ◌≤◌, ◌<◌}
 use mathlib.Core.Path.{◌≡◌, refl, sym, ap, ◌∙◌}
-use mathlib.Core.Bool.{Bool, true, false, not}
+use mathlib.Core.Bool.{Bool, cond}
 use mathlib.Core.List.Memᴰ
 use mathlib.Core.List.{List, [], ◌∷◌, ◌++◌, Memᴰ}
 use native.Mathlib.Omega.{arith}
 use lib.ListN.{length}
-use borrow.Author.Tests.{eqb-true, not-false}
-use Rattle.wellfounded.specs.Lists.{all}
-use Rattle.wellfounded.specs.Definitions.{Definition, is_defined}
-use Rattle.wellfounded.proofs.Lists.{all_use}
+use Rattle.std.specs.Prelude.{IsErrAnd}
+use Rattle.std.specs.declared.option.Option.{Option}
+use Rattle.std.specs.declared.result.Result.{Result}
+use Rattle.std.specs.declared.result.Result.TheVariants.{Ok, Err}
+use Rattle.wellfounded.specs.Definitions.{is_defined}
 use Rattle.wellfounded.proofs.Closure.{model_length}
-use Rattle.tables.specs.declared.Found.{Found}
-use Rattle.tables.specs.declared.Found.TheVariants.{At, Nothing}
-use Rattle.tables.specs.declared.Fault.{Fault}
-use Rattle.tables.specs.declared.Fault.TheVariants.{Value, SliceLength}
-use Rattle.tables.specs.declared.Verdict.{Verdict}
-use Rattle.tables.specs.declared.Verdict.TheVariants.{Accepted, Refused}
-use Rattle.tables.specs.Limits.{max_atoms}
-use Rattle.tables.specs.Faults.{lowest, Test, Absent, first_fault}
-use Rattle.tables.specs.Rows.{rule_count, rule_head, definition_of}
-use Rattle.tables.specs.Sound.{Tables, group_of, book_of, table_tests, Slice, is_sized, slice_test, mark_count_test, mark_test, lent_tests}
-use Rattle.tables.specs.internal.Definitions.{HasRows}
+use Rattle.tables.specs.declared.Refusal.{Refusal}
+use Rattle.tables.specs.declared.Fault.TheVariants.{Value, IndexSize}
+use Rattle.tables.specs.Limits.{max_atoms, max_rule_rows}
+use Rattle.tables.specs.Faults.{Verdict, accepted, refused, lowest, refused_or, Test, Absent, first_fault}
+use Rattle.tables.specs.Rows.{rule_count, rule_head}
+use Rattle.tables.specs.Sound.{Tables, group_of, book_of, table_tests, Slice, lent_tests}
 use Rattle.tables.specs.internal.Marks.{is_marked, TellsDefined}
-use Rattle.tables.specs.internal.Scans.{ClausesScannable, LoadsScannable}
-use Rattle.tables.proofs.Faults.{first_fails, once_fails, verdict_refuses, verdict_leaves, first_append, first_append_refused, lowest_same, refused_accepted}
-use Rattle.tables.proofs.Faults.{found_refuses, nothing_leaves, nothing_absent, accepted_absent}
-use Rattle.tables.proofs.RowLaws.{defined_tell, definition_rows, book_size}
-use Rattle.tables.proofs.SoundTables.{slice_leaves, lent_order, lent_tables_lem, lent_marks, sound_sizes, sound_rules, sound_clauses, sound_loads}
+use Rattle.tables.specs.internal.Scans.{RulesScannable, ClausesScannable, LoadsScannable}
+use Rattle.tables.proofs.Faults.{verdict_refuses, verdict_leaves, first_append, first_append_refused, lowest_same, accepted_absent}
+use Rattle.tables.proofs.Faults.{absent_alone, require_alone, handed_on}
+use Rattle.tables.proofs.RowLaws.{defined_tell, book_size, book_rows_lem}
+use Rattle.tables.proofs.SoundTables.{lent_tables_lem, lent_marks, sound_sizes, sound_rules, sound_clauses, sound_loads}
 use Rattle.satisfaction.specs.Satisfied.{clause_test, load_test, satisfaction_tests}
 use Rattle.sorting.specs.Sorted.{starts_of, rows_by_key}
 use Rattle.rounds.specs.internal.Starting.{bad_start}
 use Rattle.evaluator.specs.Evaluate.{bad_setting, setting_test, undecided_test, model_tests, evaluated}
 use Rattle.evaluator.proofs.SettingFault.{absent_setting}
-use Rattle.indexing.specs.Index.{by_literal, index_starts, index_entries, index_test, built_or, IndexFits}
+use Rattle.indexing.specs.Index.{by_literal, index_starts, index_entries, index_fits, index_test, built_or, IndexFits}
+use Rattle.indexing.specs.internal.Building.{Buildable}
 use Rattle.indexing.proofs.IndexLaws.{fitting_buildable}
 use Rattle.indexing.proofs.Theorems.{index_fits_lem}
 use Rattle.advancing.specs.internal.Advancing.{AdvanceReady, AdvanceDone}
 use Rattle.indexed.specs.EvaluateIndexed.{IndexedSlices, lent_lengths, sized_slices, indexed_tests, indexed_stop, model_counts, EvaluatesIndexed}
-use Rattle.indexed.specs.internal.Following.{early_tests, ruled, Followable, Stands, Followed}
+use Rattle.indexed.specs.internal.Following.{early_tests, Stopped, Stands, Makes}
 use Rattle.indexed.proofs.Stopping.{setting_long_lem, values_long_lem, levels_long_lem, work_long_lem, counts_long_lem, accepted_evaluated, refused_stopped}
+use Rattle.indexed.proofs.Stopping.{none_lent as passed_lent}
 
 -- ── The verdict before the setting ──
 
 module _ (t : Tables) (setting values levels work starts entries counts : ℕ) where
-  abbrev pub lengths : List Slice
+  abbrev lengths : List Slice
   lengths = lent_lengths t.atoms (rule_count t.rules) setting values levels work counts
 
-  abbrev pub early : List Test
+  abbrev early : List Test
   early = early_tests t setting values levels work starts entries counts
 
-  order : first_fault early ≡ first_fault (table_tests t ++ (slice_test lengths ∷ mark_count_test t ∷ mark_test t ∷ index_test t starts entries ∷ []))
-  unfolding early_tests
-  order = ap first_fault (lent_order t lengths (index_test t starts entries ∷ []))
+  module _ {lent : Verdict} (is : lent ≡ first_fault (lent_tests t lengths)) where
+    -- A fault of what is lent is the verdict,
+    pub lent_refuses : {w : Verdict} {r : Refusal} → lent ≡ Err r → IsErrAnd w (λ e. e ≡ r) → w ≡ first_fault early
+    unfolding early_tests
+    lent_refuses {w} {r} was same = sym (handed_on w lent was same) ∙ verdict_refuses early (lent_tests t lengths) _ lent r.fault r.position refl is was
 
-  -- A fault of the tables is the verdict,
-  pub tables_refuse :
-      (verdict : Verdict) (fault : Fault) (position : ℕ) → verdict ≡ first_fault (table_tests t) → verdict ≡ Refused fault position →
-      verdict ≡ first_fault early
-  tables_refuse verdict fault position is refused = verdict_refuses early (table_tests t) _ verdict fault position order is refused
+    module _ (passed : lent ≡ accepted) where
+      pub small : (t.atoms ≤ max_atoms) × (length t.rules ≤ 65536)
+      small =
+          let sizes = sound_sizes t (lent_tables_lem t lengths (accepted_absent (lent_tests t lengths) (sym is ∙ passed))) in
+          (sizes.few_atoms, omega (arith, sizes.few_rules))
 
-  module _ (verdict : Verdict) (is : verdict ≡ first_fault (table_tests t)) (accepted : verdict ≡ Accepted) (fit : Bool)
-      (fits : fit ≡ all is_sized lengths) where
-    tables_leave : first_fault early ≡ first_fault (slice_test lengths ∷ mark_count_test t ∷ mark_test t ∷ index_test t starts entries ∷ [])
-    tables_leave = verdict_leaves early (table_tests t) _ verdict order is accepted
+      -- and else it is left to the lengths of the index.
+      pub lengths_decide :
+          {fit : Bool} {w : Verdict} → fit ≡ index_fits t.atoms t.rules starts entries → w ≡ cond fit accepted (refused IndexSize 0) →
+          w ≡ first_fault early
+      unfolding early_tests index_test
+      lengths_decide {fit} {w} fits decides =
+          require_alone IndexSize _ w (decides ∙ ap (λ (b : Bool). cond b accepted (refused IndexSize 0)) fits)
+          ∙ sym (verdict_leaves early (lent_tests t lengths) _ lent refl is passed)
 
-    -- then a slice of another length,
-    pub slices_refuse : not fit ≡ true → Refused SliceLength 0 ≡ first_fault early
-    unfolding slice_test
-    slices_refuse wrong = sym (tables_leave ∙ first_fails _ _ 0 (once_fails _ (ap not (sym fits) ∙ wrong)))
-
-    -- and else it is left to the marks and the index.
-    pub slices_leave : not fit ≡ false → first_fault early ≡ first_fault (mark_count_test t ∷ mark_test t ∷ index_test t starts entries ∷ [])
-    unfolding is_sized
-    slices_leave right = tables_leave ∙ slice_leaves lengths _ long
-      where
-        long : (x : Slice) → Memᴰ x lengths → x.entries ≡ x.due
-        long x m = eqb-true _ _ (all_use is_sized lengths (sym fits ∙ not-false _ right) m)
-
--- ── Following the rules ──
-
--- The definition has as many atoms as the setting has values.
-pub ruled_size : (rules literals marks setting : List ℕ) → (ruled rules literals marks setting).size ≡ length setting
-unfolding ruled definition_of
-ruled_size rules literals marks setting = refl
-
-ruled_rows : (rules literals marks setting : List ℕ) → HasRows (ruled rules literals marks setting) rules literals
-unfolding ruled
-ruled_rows rules literals marks setting = definition_rows (length setting) rules literals marks
-
-module _ {rules literals marks setting values levels work starts entries counts : List ℕ}
-    (can : Followable rules literals marks setting values levels work starts entries counts) where
-  abbrev pub its_book : Definition
-  its_book = ruled rules literals marks setting
-
-  -- The marks of defined atoms have room,
-  pub heads_fit : (row : ℕ) → row < rule_count rules → rule_head rules row < max_atoms
-  heads_fit row l = omega (arith, can.few, can.rows.heads row l)
-
-  pub marks_fit : length marks ≤ max_atoms
-  marks_fit = omega (arith, can.few, can.marks_long)
-
-  module _ {defined : List ℕ} (marked : TellsDefined rules marks 0 max_atoms defined) where
-    tells : (atom : ℕ) → atom < length setting → is_marked defined atom ≡ is_defined its_book atom
-    unfolding ruled
-    tells = defined_tell (length setting) rules literals marks 0 can.marks_long marked
-
-    -- and by them the setting is searched for 21.
-    pub setting_fits : length setting ≤ length defined
-    setting_fits = rw marked.long can.few
-
-    pub setting_same : lowest (length setting) (bad_start defined setting) ≡ lowest its_book.size (bad_setting its_book setting)
-    unfolding bad_start bad_setting
-    setting_same =
-        ap (λ (n : ℕ). lowest n (bad_start defined setting)) (sym (ruled_size rules literals marks setting))
-        ∙ lowest_same _ _ its_book.size (λ atom l. rw (tells atom (rw ruled_size at l)))
-
-    module _ {found : Found} (is : found ≡ lowest (length setting) (bad_start defined setting)) where
-      -- A value that is found stops it,
-      pub setting_stops :
-          {atom : ℕ} → found ≡ At atom →
-          Followed its_book rules literals setting values levels work starts entries counts (Refused Value atom) 0 values levels work starts entries counts
-      unfolding setting_test
-      setting_stops at =
-          record {
-            judged = found_refuses _ _ [] found _ refl (is ∙ setting_same) at;
-            stops = λ fault position e. record {
-              same_values = refl;
-              same_levels = refl;
-              same_work = refl;
-              same_starts = refl;
-              same_entries = refl;
-              same_counts = refl;
-              no_rounds = refl;
-            };
-            makes = λ e. absurd (refused_accepted e);
-          }
-
-      module _ (none : found ≡ Nothing) where
-        absent : Absent (setting_test its_book setting)
-        unfolding setting_test
-        absent = nothing_absent _ (sym (is ∙ setting_same) ∙ none)
-
-        -- and else the rounds can follow the index that was built,
-        pub advance_ready :
-            {starts' entries' : List ℕ} →
-            (starts' ≡ starts_of (by_literal rules literals) (2 * length setting)) × (entries' ≡ rows_by_key (by_literal rules literals) (2 * length setting)) →
-            AdvanceReady its_book rules literals defined setting values levels work starts' entries' counts
-        advance_ready built =
-            record {
-              stages = record {
-                lends = record {
-                  few = rw ruled_size can.few;
-                  long = sym (ruled_size rules literals marks setting);
-                  has_rows = ruled_rows rules literals marks setting;
-                  rows = rw ruled_size can.rows;
-                  room = marked.long;
-                  tells = λ atom l. tells atom (rw ruled_size at l);
-                };
-                values_long = can.values_long;
-                levels_long = can.levels_long;
-                work_long = can.work_long;
-              };
-              given = absent_setting its_book setting absent;
-              few_rows = can.few_rows;
-              starts_are = rw ruled_size built.0;
-              entries_are = rw ruled_size built.1;
-              counts_long = can.counts_long;
-            }
-
-        -- which ends in all that is promised.
-        pub follows :
-            {starts' entries' values' levels' work' counts' : List ℕ} {rounds : ℕ} →
-            (starts' ≡ starts_of (by_literal rules literals) (2 * length setting)) × (entries' ≡ rows_by_key (by_literal rules literals) (2 * length setting)) →
-            AdvanceDone its_book rules literals setting values' levels' work' counts' rounds →
-            Followed its_book rules literals setting values levels work starts entries counts Accepted rounds values' levels' work' starts' entries' counts'
-        unfolding setting_test first_fault
-        follows built done =
-            record {
-              judged = sym (nothing_leaves (setting_test its_book setting ∷ []) (setting_test its_book setting) [] found refl (is ∙ setting_same) none);
-              stops = λ fault position e. absurd (refused_accepted (sym e));
-              makes = λ e. record { done = done; starts_are = built.0; entries_are = built.1 };
-            }
-
--- ── The whole call ──
+-- ── Making ──
 
 module _ (t : Tables) (s : IndexedSlices) where
-  abbrev pub early_of : List Test
+  abbrev early_of : List Test
   early_of =
       early_tests t (length s.setting) (length s.values) (length s.levels) (length s.work) (length s.starts) (length s.entries)
       (length s.counts)
@@ -197,119 +83,193 @@ module _ (t : Tables) (s : IndexedSlices) where
   unfolding indexed_tests early_tests sized_slices lent_tests table_tests
   tests_split = refl
 
-  -- What is refused leaves all slices as they were.
-  stopped_answer :
-      (fault : Fault) (position : ℕ) → indexed_stop t s ≡ Refused fault position →
-      EvaluatesIndexed t s (Refused fault position) 0 s.values s.levels s.work s.starts s.entries s.counts
-  unfolding built_or
-  stopped_answer fault position e =
+  -- What is refused is answered, and nothing is written.
+  stopped :
+      (answer : Result ℕ Refusal) {r : Refusal} → indexed_stop t s ≡ Err r → IsErrAnd answer (λ e. e ≡ r) →
+      Makes t s answer s.values s.levels s.work s.starts s.entries s.counts
+  unfolding Makes
+  stopped (Ok rounds) stops same = absurd same
+  stopped (Err e) stops same =
       record {
-        evaluation = rw (refused_stopped t s fault position e) (record { verdict_is = refl; rounds_is = refl; values_is = refl; levels_is = refl; work_is = refl });
-        left = record { starts_built = rw e; entries_built = rw e; counts_built = rw e };
+        stops = stops ∙ ap Err (sym same);
+        same_values = refl;
+        same_levels = refl;
+        same_work = refl;
+        same_starts = refl;
+        same_entries = refl;
+        same_counts = refl;
       }
 
-  -- Refused before the setting,
-  pub early_answer :
-      (verdict : Verdict) (fault : Fault) (position : ℕ) → verdict ≡ first_fault early_of → verdict ≡ Refused fault position →
-      EvaluatesIndexed t s verdict 0 s.values s.levels s.work s.starts s.entries s.counts
-  unfolding indexed_stop
-  early_answer verdict fault position is refused =
-      rw refused
-      (stopped_answer fault position (ap first_fault tests_split ∙ first_append_refused early_of _ fault position (sym is ∙ refused)))
+  module _ {verdict : Verdict} (is : verdict ≡ first_fault early_of) where
+    -- A fault before the setting stops it.
+    pub early_stops :
+        (answer : Result ℕ Refusal) {r : Refusal} → verdict ≡ Err r → IsErrAnd answer (λ e. e ≡ r) →
+        Makes t s answer s.values s.levels s.work s.starts s.entries s.counts
+    unfolding indexed_stop
+    early_stops answer {r} was same =
+        stopped answer (ap first_fault tests_split ∙ first_append_refused early_of _ r.fault r.position (sym is ∙ was)) same
 
-  module _ (verdict₁ : Verdict) (is : verdict₁ ≡ first_fault early_of) (accepted : verdict₁ ≡ Accepted) where
-    none : (test : Test) → Memᴰ test early_of → Absent test
-    none = accepted_absent early_of (sym is ∙ accepted)
+    module _ (passed : verdict ≡ accepted) where
+      none : (test : Test) → Memᴰ test early_of → Absent test
+      none = accepted_absent early_of (sym is ∙ passed)
 
-    none_lent : (test : Test) → Memᴰ test (lent_tests t (sized_slices t s)) → Absent test
-    unfolding early_tests sized_slices
-    none_lent test m = none test (Memᴰ.append_left _ m)
+      none_lent : (test : Test) → Memᴰ test (lent_tests t (sized_slices t s)) → Absent test
+      unfolding early_tests sized_slices
+      none_lent test m = none test (Memᴰ.append_left _ m)
 
-    none_tables : (test : Test) → Memᴰ test (table_tests t) → Absent test
-    none_tables = lent_tables_lem t (sized_slices t s) none_lent
+      none_tables : (test : Test) → Memᴰ test (table_tests t) → Absent test
+      none_tables = lent_tables_lem t (sized_slices t s) none_lent
 
-    none_index : IndexFits t (length s.starts) (length s.entries)
-    unfolding early_tests
-    none_index = (index_fits_lem t _ _).0 (none _ (Memᴰ.append_right (lent_tests t _) (Memᴰ.head refl)))
+      none_index : IndexFits t (length s.starts) (length s.entries)
+      unfolding early_tests
+      none_index = (index_fits_lem t _ _).0 (none _ (Memᴰ.append_right (lent_tests t _) (Memᴰ.head refl)))
 
-    long : length s.setting ≡ t.atoms
-    long = setting_long_lem t s none_lent
+      few : t.atoms ≤ max_atoms
+      few = (sound_sizes t none_tables).few_atoms
 
-    -- or the rules can be followed;
-    pub followable :
-        Followable t.rules t.literals t.marks s.setting s.values s.levels s.work s.starts s.entries s.counts
-    unfolding rule_count
-    followable =
-        let sizes = sound_sizes t none_tables in
-        record {
-          few = rw long sizes.few_atoms;
-          few_rows = omega (arith, sizes.few_rules);
-          rows = rw long (sound_rules t none_tables);
-          marks_long = (lent_marks t (sized_slices t s) none_lent).many ∙ sym long;
-          values_long = values_long_lem t s none_lent ∙ sym long;
-          levels_long = levels_long_lem t s none_lent ∙ sym long;
-          work_long = work_long_lem t s none_lent ∙ sym long;
-          buildable = rw long (fitting_buildable t none_tables s.starts s.entries none_index);
-          counts_long = counts_long_lem t s none_lent;
-        }
+      few_rows : rule_count t.rules ≤ max_rule_rows
+      unfolding rule_count
+      few_rows = omega (arith, (sound_sizes t none_tables).few_rules)
 
-    same_book : ruled t.rules t.literals t.marks s.setting ≡ book_of t
-    unfolding ruled book_of group_of
-    same_book = ap (λ (n : ℕ). definition_of n t.rules t.literals t.marks 0) long
+      rows : RulesScannable t.rules t.literals t.atoms
+      rows = sound_rules t none_tables
 
-    module _ (verdict₂ : Verdict) (rounds : ℕ) (values levels work starts entries counts : List ℕ)
-        (followed : Followed (ruled t.rules t.literals t.marks s.setting) t.rules t.literals s.setting s.values s.levels
-        s.work s.starts s.entries s.counts verdict₂ rounds values levels work starts entries counts) where
-      judged : indexed_stop t s ≡ verdict₂
-      unfolding indexed_stop
-      judged =
-          ap first_fault tests_split ∙ first_append early_of _ (sym is ∙ accepted)
-          ∙ ap (λ (d : Definition). first_fault (setting_test d s.setting ∷ [])) (sym same_book) ∙ sym followed.judged
+      many : length t.marks ≡ t.atoms
+      many = (lent_marks t (sized_slices t s) none_lent).many
 
-      -- then it is refused for the setting,
-      pub setting_answer :
-          (fault : Fault) (position : ℕ) → verdict₂ ≡ Refused fault position →
-          EvaluatesIndexed t s verdict₂ rounds values levels work starts entries counts
-      setting_answer fault position refused =
-          let same = followed.stops fault position refused in
-          rw (refused, same.no_rounds, same.same_values, same.same_levels, same.same_work, same.same_starts, same.same_entries, same.same_counts)
-          (stopped_answer fault position (judged ∙ refused))
+      long : length s.setting ≡ t.atoms
+      long = setting_long_lem t s none_lent
 
-      -- or the model is made, and judged.
-      module _ (passed : verdict₂ ≡ Accepted) where
-        stands : Stands (book_of t) t.rules t.literals s.setting rounds values levels work starts entries counts
-        stands = rw same_book at (followed.makes passed)
+      -- The marks of defined atoms have room,
+      pub heads_fit : (row : ℕ) → row < rule_count t.rules → rule_head t.rules row < max_atoms
+      heads_fit row l = omega (arith, few, rows.heads row l)
 
-        valued : length values ≡ t.atoms
-        valued = ap length stands.done.done.model ∙ model_length (book_of t) s.setting ∙ book_size t
+      pub marks_fit : length t.marks ≤ max_atoms
+      marks_fit = omega (arith, few, many)
 
-        pub model_scannable :
-            ClausesScannable t.clauses t.literals (length values)
-            × LoadsScannable t.loads t.load_literals t.minutes (length values)
-        model_scannable = rw valued (sound_clauses t none_tables, sound_loads t none_tables)
+      -- the index can be built,
+      pub buildable : Buildable t.rules t.literals s.starts s.entries (2 * t.atoms)
+      buildable = fitting_buildable t none_tables s.starts s.entries none_index
 
-        pub made_answer :
-            (verdict : Verdict) →
-            verdict ≡ first_fault
-            (undecided_test (length values) values ∷ clause_test t.clauses t.literals values
-            ∷ load_test t.loads t.load_literals t.minutes values ∷ []) →
-            EvaluatesIndexed t s verdict rounds values levels work starts entries counts
-        unfolding evaluated model_tests satisfaction_tests built_or index_starts index_entries model_counts
-        made_answer verdict fault =
-            let nothing = judged ∙ passed in
-            let done = stands.done.done in
-            record {
-              evaluation = rw (accepted_evaluated t s nothing) (record {
-                verdict_is = rw valued at fault ∙ ap (λ (v : List ℕ). first_fault (model_tests t v)) done.model;
-                rounds_is = done.many;
-                values_is = done.model;
-                levels_is = done.stages;
-                work_is = rw long at done.cleared;
-              });
-              left =
+      module _ {defined : List ℕ} (marked : TellsDefined t.rules t.marks 0 max_atoms defined) where
+        tells : (atom : ℕ) → atom < t.atoms → is_marked defined atom ≡ is_defined (book_of t) atom
+        unfolding book_of group_of
+        tells = defined_tell t.atoms t.rules t.literals t.marks 0 many marked
+
+        -- and by the marks the setting is searched for 21.
+        pub setting_fits : length s.setting ≤ length defined
+        setting_fits = omega (arith, few, long, marked.long)
+
+        setting_same : lowest (length s.setting) (bad_start defined s.setting) ≡ lowest (book_of t).size (bad_setting (book_of t) s.setting)
+        unfolding bad_start bad_setting
+        setting_same = rw (long ∙ sym (book_size t)) (lowest_same _ _ (book_of t).size (λ atom l. rw (tells atom (rw book_size at l))))
+
+        module _ {found : Option ℕ} (finds : found ≡ lowest (length s.setting) (bad_start defined s.setting)) {judged : Verdict}
+            (judges : judged ≡ refused_or Value found accepted) where
+          alone : judged ≡ first_fault (setting_test (book_of t) s.setting ∷ [])
+          unfolding setting_test
+          alone = absent_alone (setting_test (book_of t) s.setting) found judged judges (finds ∙ setting_same)
+
+          stop_is : indexed_stop t s ≡ judged
+          unfolding indexed_stop
+          stop_is = ap first_fault tests_split ∙ first_append early_of _ (sym is ∙ passed) ∙ sym alone
+
+          -- A value that is found stops it,
+          pub setting_stops :
+              (answer : Result ℕ Refusal) {r : Refusal} → judged ≡ Err r → IsErrAnd answer (λ e. e ≡ r) →
+              Makes t s answer s.values s.levels s.work s.starts s.entries s.counts
+          setting_stops answer was same = stopped answer (stop_is ∙ was) same
+
+          module _ (good : judged ≡ accepted) {starts entries : List ℕ}
+              (built :
+              (starts ≡ starts_of (by_literal t.rules t.literals) (2 * t.atoms)) × (entries ≡ rows_by_key (by_literal t.rules t.literals) (2 * t.atoms)))
+            where
+              -- and else the rounds can follow the index that was built,
+              pub advance_ready :
+                  AdvanceReady (book_of t) t.rules t.literals defined s.setting s.values s.levels s.work starts entries s.counts
+              advance_ready =
                   record {
-                    starts_built = rw (nothing, ← long) stands.starts_are;
-                    entries_built = rw (nothing, ← long) stands.entries_are;
-                    counts_built = rw nothing stands.done.waits;
-                  };
-            }
+                    stages = record {
+                      lends = record {
+                        few = rw book_size few;
+                        long = long ∙ sym (book_size t);
+                        has_rows = book_rows_lem t;
+                        rows = rw book_size rows;
+                        room = marked.long;
+                        tells = λ atom l. tells atom (rw book_size at l);
+                      };
+                      values_long = values_long_lem t s none_lent ∙ sym long;
+                      levels_long = levels_long_lem t s none_lent ∙ sym long;
+                      work_long = work_long_lem t s none_lent ∙ sym long;
+                    };
+                    given = absent_setting (book_of t) s.setting (accepted_absent _ (sym alone ∙ good) _ (Memᴰ.head refl));
+                    few_rows = few_rows;
+                    starts_are = rw book_size built.0;
+                    entries_are = rw book_size built.1;
+                    counts_long = counts_long_lem t s none_lent;
+                  }
+
+              -- which are answered.
+              pub makes :
+                  {rounds : ℕ} {values levels work counts : List ℕ} →
+                  AdvanceDone (book_of t) t.rules t.literals s.setting values levels work counts rounds →
+                  Makes t s (Ok rounds) values levels work starts entries counts
+              unfolding Makes
+              makes done = record { passes = stop_is ∙ good; done = done; starts_are = built.0; entries_are = built.1 }
+
+  -- ── The answer ──
+
+  module _ (answer : Result ℕ Refusal) (values levels work starts entries counts : List ℕ) (made : Makes t s answer values levels work starts entries counts) where
+    -- What stops it is its answer, and leaves all slices as they were;
+    pub stopped_answer : {r : Refusal} → answer ≡ Err r → EvaluatesIndexed t s (Err r) 0 values levels work starts entries counts
+    unfolding Makes built_or
+    stopped_answer {r} e =
+        let x : Stopped t s r values levels work starts entries counts = rw e at made in
+        rw (x.same_values, x.same_levels, x.same_work, x.same_starts, x.same_entries, x.same_counts)
+        (record {
+          evaluation = rw (refused_stopped t s r.fault r.position x.stops) (record { verdict_is = refl; rounds_is = refl; values_is = refl; levels_is = refl; work_is = refl });
+          left = record { starts_built = rw x.stops; entries_built = rw x.stops; counts_built = rw x.stops };
+        })
+
+    -- or the model is made, and judged.
+    module _ {rounds : ℕ} (e : answer ≡ Ok rounds) where
+      stands : Stands t s rounds values levels work starts entries counts
+      unfolding Makes
+      stands = rw e at made
+
+      valued : length values ≡ t.atoms
+      valued = ap length stands.done.done.model ∙ model_length (book_of t) s.setting ∙ book_size t
+
+      sound : (test : Test) → Memᴰ test (table_tests t) → Absent test
+      sound = lent_tables_lem t (sized_slices t s) (passed_lent t s stands.passes)
+
+      pub model_clauses : ClausesScannable t.clauses t.literals (length values)
+      model_clauses = rw valued (sound_clauses t sound)
+
+      pub model_loads : LoadsScannable t.loads t.load_literals t.minutes (length values)
+      model_loads = rw valued (sound_loads t sound)
+
+      pub made_answer :
+          {verdict : Verdict} →
+          verdict ≡ first_fault
+          (undecided_test (length values) values ∷ clause_test t.clauses t.literals values
+          ∷ load_test t.loads t.load_literals t.minutes values ∷ []) →
+          EvaluatesIndexed t s verdict rounds values levels work starts entries counts
+      unfolding evaluated model_tests satisfaction_tests built_or index_starts index_entries model_counts
+      made_answer fault =
+          let done = stands.done.done in
+          record {
+            evaluation = rw (accepted_evaluated t s stands.passes) (record {
+              verdict_is = rw valued at fault ∙ ap (λ (v : List ℕ). first_fault (model_tests t v)) done.model;
+              rounds_is = done.many;
+              values_is = done.model;
+              levels_is = done.stages;
+              work_is = rw (setting_long_lem t s (passed_lent t s stands.passes)) at done.cleared;
+            });
+            left =
+                record {
+                  starts_built = rw stands.passes stands.starts_are;
+                  entries_built = rw stands.passes stands.entries_are;
+                  counts_built = rw stands.passes stands.done.waits;
+                };
+          }

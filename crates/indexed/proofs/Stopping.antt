@@ -13,8 +13,8 @@ use Rattle.wellfounded.specs.Stages.{well_founded_model}
 use Rattle.wellfounded.proofs.Tests.{clash}
 use Rattle.tables.specs.declared.Fault.{Fault}
 use Rattle.tables.specs.declared.Fault.TheVariants.{SliceLength}
-use Rattle.tables.specs.declared.Verdict.{Verdict}
-use Rattle.tables.specs.declared.Verdict.TheVariants.{Accepted, Refused}
+use Rattle.std.specs.declared.result.Result.TheVariants.{Ok, Err}
+use Rattle.tables.specs.Faults.{Verdict, accepted, refused}
 use Rattle.tables.specs.Limits.{max_position}
 use Rattle.tables.specs.Faults.{Test, Absent, first_fault, position_of}
 use Rattle.tables.specs.Rows.{rule_count}
@@ -63,8 +63,8 @@ module _ (t : Tables) (s : IndexedSlices) where
       (v : Verdict) (values levels work : List ℕ) (made : Evaluation) →
       stopped_or v values levels work (stopped_or v values levels work made) ≡ stopped_or v values levels work made
   unfolding stopped_or
-  stopped_twice Accepted values levels work made = refl
-  stopped_twice (Refused fault position) values levels work made = refl
+  stopped_twice (Ok nothing) values levels work made = refl
+  stopped_twice (Err r) values levels work made = refl
 
   pub same_evaluation :
       IndexFits t (length s.starts) (length s.entries) → length s.counts ≡ rule_count t.rules → evaluate_indexed_of t s ≡ plainly
@@ -105,7 +105,7 @@ module _ (t : Tables) (s : IndexedSlices) where
 
   -- ── What nothing stops ──
 
-  module _ (accepted : indexed_stop t s ≡ Accepted) where
+  module _ (accepted : indexed_stop t s ≡ accepted) where
     -- No fault that stops it occurs.
     none_stops : (test : Test) → Memᴰ test (indexed_tests t s) → Absent test
     unfolding indexed_stop
@@ -127,8 +127,8 @@ module _ (t : Tables) (s : IndexedSlices) where
 
   -- What stops it is its answer, and nothing is written.
   pub refused_stopped :
-      (fault : Fault) (position : ℕ) → indexed_stop t s ≡ Refused fault position →
-      evaluate_indexed_of t s ≡ record { verdict = Refused fault position; rounds = 0; values = s.values; levels = s.levels; work = s.work }
+      (fault : Fault) (position : ℕ) → indexed_stop t s ≡ refused fault position →
+      evaluate_indexed_of t s ≡ record { verdict = refused fault position; rounds = 0; values = s.values; levels = s.levels; work = s.work }
   unfolding evaluate_indexed_of stopped_or
   refused_stopped fault position e = rw e
 
@@ -142,26 +142,26 @@ module _ (t : Tables) (s : IndexedSlices) where
       step :
           (x : Verdict) → first_fault (indexed_tests t s) ≡ x →
           (evaluate_indexed_of t s).verdict ≡ first_fault (indexed_tests t s ++ model_tests t (well_founded_model (book_of t) s.setting))
-      step Accepted e = ap (λ (y : Evaluation). y.verdict) (accepted_evaluated e) ∙ sym (first_append (indexed_tests t s) _ e)
-      step (Refused fault position) e =
-          ap (λ (y : Evaluation). y.verdict) (refused_stopped fault position e)
-          ∙ sym (first_append_refused (indexed_tests t s) _ fault position e)
+      step (Ok nothing) e = ap (λ (y : Evaluation). y.verdict) (accepted_evaluated e) ∙ sym (first_append (indexed_tests t s) _ e)
+      step (Err r) e =
+          ap (λ (y : Evaluation). y.verdict) (refused_stopped r.fault r.position e)
+          ∙ sym (first_append_refused (indexed_tests t s) _ r.fault r.position e)
 
   -- An evaluation that is stopped is not made,
-  stopped_unmade : (fault : Fault) (position : ℕ) → indexed_stop t s ≡ Refused fault position → model_fault fault ≡ false
+  stopped_unmade : (fault : Fault) (position : ℕ) → indexed_stop t s ≡ refused fault position → model_fault fault ≡ false
   unfolding indexed_stop indexed_tests lent_tests table_tests slice_test mark_count_test mark_test index_test setting_test all any model_fault
   stopped_unmade fault position e =
       not-true _ (refused_among (λ f. not (model_fault f)) (indexed_tests t s) refl fault position e)
 
   -- so a verdict of one that was made says that nothing stopped it,
-  pub made_accepted : is_made (evaluate_indexed_of t s).verdict ≡ true → indexed_stop t s ≡ Accepted
+  pub made_accepted : is_made (evaluate_indexed_of t s).verdict ≡ true → indexed_stop t s ≡ accepted
   unfolding is_made
   made_accepted made = step (indexed_stop t s) refl
     where
-      step : (x : Verdict) → indexed_stop t s ≡ x → indexed_stop t s ≡ Accepted
-      step Accepted e = e
-      step (Refused fault position) e =
-          absurd (clash (rw (refused_stopped fault position e) at made) (stopped_unmade fault position e))
+      step : (x : Verdict) → indexed_stop t s ≡ x → indexed_stop t s ≡ accepted
+      step (Ok nothing) e = e
+      step (Err r) e =
+          absurd (clash (rw (refused_stopped r.fault r.position e) at made) (stopped_unmade r.fault r.position e))
 
   -- and every other verdict is that of what stopped it.
   pub unmade_refused : is_made (evaluate_indexed_of t s).verdict ≡ false → indexed_stop t s ≡ (evaluate_indexed_of t s).verdict
@@ -169,9 +169,9 @@ module _ (t : Tables) (s : IndexedSlices) where
   unmade_refused unmade = step (indexed_stop t s) refl
     where
       step : (x : Verdict) → indexed_stop t s ≡ x → indexed_stop t s ≡ (evaluate_indexed_of t s).verdict
-      step Accepted e =
+      step (Ok nothing) e =
           absurd (clash (model_made t (well_founded_model (book_of t) s.setting)) (rw (accepted_evaluated e) at unmade))
-      step (Refused fault position) e = e ∙ sym (ap (λ (y : Evaluation). y.verdict) (refused_stopped fault position e))
+      step (Err r) e = e ∙ sym (ap (λ (y : Evaluation). y.verdict) (refused_stopped r.fault r.position e))
 
   -- The position of what stops it is small.
   pub stop_position : position_of (indexed_stop t s) ≤ max_position

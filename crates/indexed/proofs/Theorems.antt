@@ -17,8 +17,8 @@ use Rattle.wellfounded.proofs.Lists.{get_d_tabulate, length_tabulate, count_same
 use Rattle.wellfounded.proofs.Scan.{body_long}
 use Rattle.wellfounded.proofs.Tests.{clash}
 use Rattle.tables.specs.declared.Fault.{Fault}
-use Rattle.tables.specs.declared.Verdict.{Verdict}
-use Rattle.tables.specs.declared.Verdict.TheVariants.{Accepted, Refused}
+use Rattle.std.specs.declared.result.Result.TheVariants.{Ok, Err}
+use Rattle.tables.specs.Faults.{Verdict, accepted, refused}
 use Rattle.tables.specs.Limits.{max_atoms, max_position}
 use Rattle.tables.specs.Faults.{RefusedBy, number_of, position_of, fault_number}
 use Rattle.tables.specs.Rows.{rule_count, rule_start, rule_size, rule_body}
@@ -58,13 +58,13 @@ module _ (t : Tables) (s : IndexedSlices) where
 
   -- On a book that the index accepts, with a count for each rule row, it is the plain maker's evaluation;
   pub both_on_accepted :
-      index_verdict t (length s.starts) (length s.entries) ≡ Accepted → length s.counts ≡ rule_count t.rules →
+      index_verdict t (length s.starts) (length s.entries) ≡ accepted → length s.counts ≡ rule_count t.rules →
       evaluate_indexed_of t s ≡ evaluate_of t s.setting s.values s.levels s.work
   both_on_accepted accepted = both_makers (accepted_fits t _ _ accepted)
 
   -- so a call of it and a call of the plain maker there give the same number, position, rounds, values, levels and work.
   pub both_calls :
-      index_verdict t (length s.starts) (length s.entries) ≡ Accepted → length s.counts ≡ rule_count t.rules →
+      index_verdict t (length s.starts) (length s.entries) ≡ accepted → length s.counts ≡ rule_count t.rules →
       (verdict : Verdict) (rounds : ℕ) (values levels work starts entries counts : List ℕ) →
       EvaluatesIndexed t s verdict rounds values levels work starts entries counts →
       (verdict' : Verdict) (rounds' : ℕ) (values' levels' work' : List ℕ) →
@@ -97,7 +97,7 @@ module _ (t : Tables) (s : IndexedSlices) where
 
   -- A refusal has a number of 11 to 17, 31, 33, 21, or 25 to 27.
   pub indexed_faults :
-      (fault : Fault) (position : ℕ) → (evaluate_indexed_of t s).verdict ≡ Refused fault position →
+      (fault : Fault) (position : ℕ) → (evaluate_indexed_of t s).verdict ≡ refused fault position →
       any (eqb (fault_number fault)) (11 ∷ 12 ∷ 13 ∷ 14 ∷ 15 ∷ 16 ∷ 17 ∷ 31 ∷ 33 ∷ 21 ∷ 25 ∷ 26 ∷ 27 ∷ []) ≡ true
   unfolding indexed_tests lent_tests table_tests slice_test mark_count_test mark_test index_test setting_test model_tests undecided_test satisfaction_tests clause_test load_test all any
   indexed_faults fault position e =
@@ -112,8 +112,8 @@ module _ (t : Tables) (s : IndexedSlices) where
       step :
           (v : Verdict) → indexed_stop t s ≡ v →
           position_of (stopped_or v s.values s.levels s.work (evaluate_of t s.setting s.values s.levels s.work)).verdict ≤ max_position
-      step Accepted e = evaluate_position t s.setting s.values s.levels s.work
-      step (Refused fault position) e = rw e at (stop_position t s)
+      step (Ok nothing) e = evaluate_position t s.setting s.values s.levels s.work
+      step (Err r) e = rw e at (stop_position t s)
 
   pub indexed_rounds : (evaluate_indexed_of t s).rounds ≤ max_atoms
   unfolding evaluate_indexed_of stopped_or
@@ -122,14 +122,14 @@ module _ (t : Tables) (s : IndexedSlices) where
       step :
           (v : Verdict) →
           (stopped_or v s.values s.levels s.work (evaluate_of t s.setting s.values s.levels s.work)).rounds ≤ max_atoms
-      step Accepted = evaluate_rounds t s.setting s.values s.levels s.work
-      step (Refused fault position) = omega arith
+      step (Ok nothing) = evaluate_rounds t s.setting s.values s.levels s.work
+      step (Err r) = omega arith
 
   -- ── What stands in the slices afterwards ──
 
   -- Where the number is 0, 25, 26 or 27 (`made_numbers`), nothing has stopped it, and the evaluation is that of the well-founded model;
   pub made_evaluated :
-      is_made (evaluate_indexed_of t s).verdict ≡ true → (indexed_stop t s ≡ Accepted) × (evaluate_indexed_of t s ≡ evaluated t s.setting)
+      is_made (evaluate_indexed_of t s).verdict ≡ true → (indexed_stop t s ≡ accepted) × (evaluate_indexed_of t s ≡ evaluated t s.setting)
   made_evaluated made = let accepted = made_accepted t s made in (accepted, accepted_evaluated t s accepted)
 
   -- for every other number something has, which is the verdict.
@@ -159,11 +159,11 @@ module _ (t : Tables) (s : IndexedSlices) where
             (x : Verdict) → indexed_stop t s ≡ x →
             (rounds ≡ 0) × (values ≡ s.values) × (levels ≡ s.levels) × (work ≡ s.work)
             × (starts ≡ s.starts) × (entries ≡ s.entries) × (counts ≡ s.counts)
-        step Accepted h =
+        step (Ok nothing) h =
             let same = sym h ∙ unmade_refused t s (rw e.evaluation.verdict_is at unmade) in
-            absurd (clash {a = is_made Accepted} refl (ap is_made (sym (e.evaluation.verdict_is ∙ sym same)) ∙ unmade))
-        step (Refused fault position) h =
-            let stopped = refused_stopped t s fault position h in (
+            absurd (clash {a = is_made accepted} refl (ap is_made (sym (e.evaluation.verdict_is ∙ sym same)) ∙ unmade))
+        step (Err r) h =
+            let stopped = refused_stopped t s r.fault r.position h in (
               e.evaluation.rounds_is ∙ ap (λ (x : Evaluation). x.rounds) stopped,
               e.evaluation.values_is ∙ ap (λ (x : Evaluation). x.values) stopped,
               e.evaluation.levels_is ∙ ap (λ (x : Evaluation). x.levels) stopped,

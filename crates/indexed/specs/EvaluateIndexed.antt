@@ -1,7 +1,7 @@
 -- What the maker that follows the index answers and leaves in each slice: the plain maker's evaluation, the index, and a count for each rule row.
 use Rattle.std.specs.Prelude.{ℕ, ◌≡◌, List, [], ◌∷◌, ◌++◌, length}
 use Rattle.wellfounded.specs.Stages.{well_founded_model}
-use Rattle.tables.specs.declared.Verdict.{Verdict}
+use Rattle.tables.specs.Faults.{Verdict}
 use Rattle.tables.specs.Faults.{Test, first_fault}
 use Rattle.tables.specs.Rows.{rule_count}
 use Rattle.tables.specs.Sound.{Tables, book_of, Slice, sized, lent_tests}
@@ -33,7 +33,7 @@ unfoldable pub indexed_tests : Tables → IndexedSlices → List Test
 indexed_tests t s =
     lent_tests t (sized_slices t s) ++ (index_test t (length s.starts) (length s.entries) ∷ setting_test (book_of t) s.setting ∷ [])
 
--- What they come to: Accepted if nothing stops it.
+-- What they come to: accepted if nothing stops it.
 unfoldable pub indexed_stop : Tables → IndexedSlices → Verdict
 indexed_stop t s = first_fault (indexed_tests t s)
 

@@ -6,19 +6,18 @@ ghost use Rattle.wellfounded.specs.Lists.{all};
 ghost use Rattle.tables.specs.Faults.{first_fault};
 ghost use Rattle.tables.specs.Sound.{lent, is_sized};
 ghost use Rattle.indexed.specs.EvaluateIndexed.{lent_lengths, EvaluatesIndexed};
-ghost use Rattle.indexed.specs.internal.Following.{early_tests, ruled, Followable, Followed};
+ghost use Rattle.indexed.specs.internal.Following.{early_tests, Makes};
 
 use advancing::advance_stages;
-use evaluator::{Answer, model_fault};
+use evaluator::{Answer, lengths_fit, lent_fault, model_fault};
 use indexing::building::build;
 use indexing::index_fits;
 use rounds::bad_setting;
 use tables::marks::mark_defined;
-use tables::refusals::first_refusal;
+use tables::refusals::{absent, require};
 use tables::rows::rule_count;
-use tables::sizes::{MAX_ATOMS, table_fault};
-use tables::values::not_held_atom;
-use tables::{Fault, Found, Verdict};
+use tables::sizes::MAX_ATOMS;
+use tables::{Fault, Refusal, Verdict};
 
 // Whether the slices under 17 have as many entries as there are atoms, and the counts as many as there are rule rows.
 fn slices_fit(
@@ -32,8 +31,7 @@ fn slices_fit(
 ) -> bool
     ensures { result ≡ all is_sized (lent_lengths atoms rows setting values levels work counts) }
 {
-    (setting == atoms)
-        & ((values == atoms) & ((levels == atoms) & ((work == atoms) & (counts == rows))))
+    lengths_fit(atoms, setting, values, levels, work) & (counts == rows)
 }
 
 // The verdict on tables, and on the lengths of all slices that are lent with them.
@@ -58,7 +56,9 @@ fn indexed_fault(
         (early_tests (lent atoms rules.now literals.now clauses.now loads.now load_literals.now
         minutes.now marks.now) setting values levels work starts entries counts) }
 {
-    let verdict = table_fault(
+    let rows = rule_count(rules);
+    let fit = slices_fit(atoms, rows, setting, values, levels, work, counts);
+    lent_fault(
         atoms,
         rules,
         literals,
@@ -66,59 +66,78 @@ fn indexed_fault(
         loads,
         load_literals,
         minutes,
-    );
-    if let Verdict::Refused(_, _) = verdict {
-        return verdict;
-    }
-    let rows = rule_count(rules);
-    if !slices_fit(atoms, rows, setting, values, levels, work, counts) {
-        return Verdict::Refused(Fault::SliceLength, 0);
-    }
-    if marks.len() != atoms {
-        return Verdict::Refused(Fault::Mark, 0);
-    }
-    let mark = not_held_atom(marks);
-    let fit = index_fits(atoms, rules, starts, entries);
-    first_refusal(mark, fit, Fault::IndexSize)
+        marks,
+        fit,
+    )?;
+    require(index_fits(atoms, rules, starts, entries), Fault::IndexSize)
 }
 
-// Follows the rules of a book without a fault of 11 to 17, 31 or 33: refused for the setting with nothing written, or the index is built and all
-// rounds are done.
-fn follow(
+// Makes the model by the index, which it builds, and answers the rounds, or refuses what is lent or the setting with nothing written.
+fn make(
+    atoms: usize,
     rules: &[u16],
     literals: &[u16],
+    clauses: &[u16],
+    loads: &[i32],
+    load_literals: &[u16],
+    minutes: &[i16],
     marks: &[u8],
-    setting: &[u8],
+    open_values: &[u8],
     values: &mut [u8],
     levels: &mut [u16],
     work: &mut [u16],
     starts: &mut [u16],
     entries: &mut [u16],
     counts: &mut [u16],
-) -> Answer
-    requires { Followable rules.now literals.now marks.now setting.now values.old levels.old work.old starts.old entries.old
-        counts.old }
-    ensures { Followed (ruled rules.now literals.now marks.now setting.now) rules.now
-        literals.now setting.now values.old levels.old work.old starts.old
-        entries.old counts.old result.verdict result.rounds values.new levels.new work.new
-        starts.new entries.new counts.new }
+) -> Result<usize, Refusal>
+    ensures { Makes
+        (lent atoms rules.now literals.now clauses.now loads.now load_literals.now
+        minutes.now marks.now)
+        (record {
+          setting = open_values.now;
+          values = values.old;
+          levels = levels.old;
+          work = work.old;
+          starts = starts.old;
+          entries = entries.old;
+          counts = counts.old;
+        })
+        result values.new levels.new work.new starts.new entries.new counts.new }
 {
+    indexed_fault(
+        atoms,
+        rules,
+        literals,
+        clauses,
+        loads,
+        load_literals,
+        minutes,
+        marks,
+        open_values.len(),
+        values.len(),
+        levels.len(),
+        work.len(),
+        starts.len(),
+        entries.len(),
+        counts.len(),
+    )?;
     let mut defined = [0u8; MAX_ATOMS];
     mark_defined(rules, 0, marks, &mut defined);
-    if let Found::At(atom) = bad_setting(&defined, setting) {
-        return Answer {
-            verdict: Verdict::Refused(Fault::Value, atom),
-            rounds: 0,
-        };
-    }
+    absent(Fault::Value, bad_setting(&defined, open_values))?;
     build(rules, literals, starts, entries);
     let rounds = advance_stages(
-        rules, literals, &defined, setting, values, levels, work, starts, entries, counts,
+        rules,
+        literals,
+        &defined,
+        open_values,
+        values,
+        levels,
+        work,
+        starts,
+        entries,
+        counts,
     );
-    Answer {
-        verdict: Verdict::Accepted,
-        rounds,
-    }
+    Ok(rounds)
 }
 
 // Evaluates a book at the open values as the plain maker does, by an index that it builds itself. For the numbers 0, 25, 26 and 27 values become the
@@ -156,7 +175,7 @@ pub fn evaluate_indexed(
         result.verdict result.rounds values.new levels.new work.new starts.new entries.new
         counts.new }
 {
-    let verdict = indexed_fault(
+    let made = make(
         atoms,
         rules,
         literals,
@@ -164,21 +183,6 @@ pub fn evaluate_indexed(
         loads,
         load_literals,
         minutes,
-        marks,
-        open_values.len(),
-        values.len(),
-        levels.len(),
-        work.len(),
-        starts.len(),
-        entries.len(),
-        counts.len(),
-    );
-    if let Verdict::Refused(_, _) = verdict {
-        return Answer { verdict, rounds: 0 };
-    }
-    let followed = follow(
-        rules,
-        literals,
         marks,
         open_values,
         values,
@@ -188,11 +192,14 @@ pub fn evaluate_indexed(
         entries,
         counts,
     );
-    let stopped = followed.verdict;
-    if let Verdict::Refused(_, _) = stopped {
-        return followed;
+    match made {
+        Ok(rounds) => {
+            let verdict = model_fault(clauses, literals, loads, load_literals, minutes, values);
+            Answer { verdict, rounds }
+        }
+        Err(refusal) => Answer {
+            verdict: Err(refusal),
+            rounds: 0,
+        },
     }
-    let rounds = followed.rounds;
-    let verdict = model_fault(clauses, literals, loads, load_literals, minutes, values);
-    Answer { verdict, rounds }
 }

@@ -9,7 +9,7 @@ ghost use Rattle.indexing.specs.Index.{index_fits, index_verdict, Indexes};
 pub mod building;
 
 use building::build;
-use tables::refusals::first_refusal;
+use tables::refusals::{first_refusal, require};
 use tables::sizes::{MAX_LITERALS, table_fault};
 use tables::totals::rules_total;
 use tables::values::not_held_atom;
@@ -41,7 +41,7 @@ fn index_fault(
         (lent atoms rules.now literals.now clauses.now loads.now load_literals.now
         minutes.now marks.now) starts entries }
 {
-    let verdict = table_fault(
+    table_fault(
         atoms,
         rules,
         literals,
@@ -49,16 +49,10 @@ fn index_fault(
         loads,
         load_literals,
         minutes,
-    );
-    if let Verdict::Refused(_, _) = verdict {
-        return verdict;
-    }
-    if marks.len() != atoms {
-        return Verdict::Refused(Fault::Mark, 0);
-    }
-    let mark = not_held_atom(marks);
+    )?;
+    require(marks.len() == atoms, Fault::Mark)?;
     let fit = index_fits(atoms, rules, starts, entries);
-    first_refusal(mark, fit, Fault::IndexSize)
+    first_refusal(not_held_atom(marks), fit, Fault::IndexSize)
 }
 
 // Builds the index of a book in two lent slices. Literal L's entries run from start L to start L + 1: the rows of the rules that hold it,
@@ -80,7 +74,7 @@ pub fn index(
         minutes.now marks.now)
         starts.old entries.old result starts.new entries.new }
 {
-    let verdict = index_fault(
+    index_fault(
         atoms,
         rules,
         literals,
@@ -91,9 +85,7 @@ pub fn index(
         marks,
         starts.len(),
         entries.len(),
-    );
-    if let Verdict::Accepted = verdict {
-        build(rules, literals, starts, entries);
-    }
-    verdict
+    )?;
+    build(rules, literals, starts, entries);
+    Ok(())
 }

@@ -1,30 +1,29 @@
 -- Laws of claim pairs: the loop over a pair's levels, and the pair read part by part.
 -- Assumes nothing.
 use Prim.Native.Nat.{ℕ, ◌+◌, ◌-◌, ◌≤◌, ◌<◌}
-use mathlib.Core.Path.{◌≡◌, refl, sym, ◌∙◌}
+use mathlib.Core.Path.{◌≡◌, refl, sym, ap, ◌∙◌}
 use mathlib.Core.Logic.{⊎_elim}
 use mathlib.Core.Bool.{Bool, true, false, cond, ◌&&◌}
 use mathlib.Core.List.{List, [], ◌∷◌, ◌++◌}
 use native.Mathlib.Omega.{arith}
 use lib.Dec.{eqb, leb}
-use lib.ListN.{length, get_or, drop, length-append, get_or-append, get_or-eq_default}
+use lib.ListN.{length, get_or, length-append, get_or-append, get_or-eq_default}
 use lib.Seq.{get_or-append_seam}
 use borrow.Author.Tests.{eqb-true, eqb-false}
 use Rattle.wellfounded.specs.Lists.{all}
 use Rattle.wellfounded.proofs.Lists.{le_or_lt}
 use Rattle.tables.specs.Limits.{max_level}
-use Rattle.numerals.specs.declared.numbers.Number.TheVariants.{Read, Refused}
-use Rattle.items.specs.declared.pairs.Levels.TheVariants.{Levelled, NoLevels}
-use Rattle.items.specs.declared.pairs.Pair.TheVariants.{Paired, NoPair}
 use Rattle.format.specs.Forms.{decimal, opening, space, closing}
-use Rattle.format.specs.Parse.{Reading, got, refused, and_then, read_number, parts, read_pair}
+use Rattle.format.specs.Parse.{and_then, read_number, parts, read_pair}
 use Rattle.format.specs.Words.{word_at}
-use Rattle.numerals.specs.internal.Offsets.{capped, number_at}
+use Rattle.numerals.specs.internal.Offsets.{capped, answered, read_at, number_at}
 use Rattle.numerals.proofs.CappedLaws.{capped_small, capped_within}
 use Rattle.format.proofs.Pieces.{number_inverse}
-use Rattle.items.specs.Items.{level_in}
-use Rattle.items.specs.internal.Places.{answered_levels, levels_at, answered_pair, pair_at}
-use Rattle.items.proofs.ItemLaws.{GotAt, number_got, number_none_read, byte_got, byte_none}
+use Rattle.items.specs.internal.Places.{levels_of, levels_at, pair_of, pair_at}
+use Rattle.items.specs.declared.pairs.Levels.{Levels}
+use Rattle.std.specs.Prelude.{None, Some}
+use Rattle.numerals.proofs.OffsetLaws.{read_some, read_none}
+use Rattle.items.proofs.ItemLaws.{GotAt, number_got, byte_got, byte_none}
 use Rattle.items.proofs.PartLaws.{Came, all_snoc, came_start, came_turn, came_refused, came_unclosed, came_end}
 use Rattle.items.proofs.ItemChains.{offset_left}
 
@@ -62,11 +61,11 @@ module _ {text : List ℕ} {at wanted next count : ℕ} {within : Bool} {found :
   levels_inside = (omega (arith, levels.counted, levels.came.counted), levels.came.inside)
 
   module _ (spaced : word_at text next (space ∷ []) ≡ true) where
-    pub levels_refused : number_at text (next + 1) ≡ Refused → NoLevels ≡ levels_at text at wanted
-    unfolding levels_at answered_levels
-    levels_refused e = rw (came_refused decimal read_number number_inverse levels.came spaced (number_none_read text (next + 1) e))
+    pub levels_refused : number_at text (next + 1) ≡ None → None ≡ levels_at text at wanted
+    unfolding read_at answered
+    levels_refused e = rw (came_refused decimal read_number number_inverse levels.came spaced (read_none capped read_number text (next + 1) e))
 
-    module _ {level after : ℕ} (read : number_at text (next + 1) ≡ Read level after) where
+    module _ {level after : ℕ} (read : number_at text (next + 1) ≡ Some (level, after)) where
       level_got : (n : ℕ) × (level ≡ capped n) × GotAt read_number text (next + 1) after n
       level_got = number_got (omega (arith, (byte_got text next space spaced).1)) read
 
@@ -96,12 +95,14 @@ module _ {text : List ℕ} {at wanted next count : ℕ} {within : Bool} {found :
               }
 
   module _ (unspaced : word_at text next (space ∷ []) ≡ false) where
-    pub levels_unclosed : word_at text next (closing ∷ []) ≡ false → NoLevels ≡ levels_at text at wanted
-    unfolding levels_at answered_levels
+    pub levels_unclosed : word_at text next (closing ∷ []) ≡ false → None ≡ levels_at text at wanted
+    unfolding read_at answered
     levels_unclosed c = rw (came_unclosed decimal read_number number_inverse levels.came unspaced c)
 
-  pub levels_end : word_at text next (closing ∷ []) ≡ true → Levelled found count within (next + 1) ≡ levels_at text at wanted
-  unfolding levels_at answered_levels
+  pub levels_end :
+      word_at text next (closing ∷ []) ≡ true →
+      Some (record { level = found; count = count; within = within }, next + 1) ≡ levels_at text at wanted
+  unfolding read_at answered levels_of
   levels_end c =
       let l = (byte_got text next closing c).1 in
       rw (
@@ -114,42 +115,33 @@ module _ {text : List ℕ} {at wanted next count : ℕ} {within : Bool} {found :
 
 -- ── A pair `(V K ..)` ──
 
-levels_answer :
-    (text : List ℕ) (wanted : ℕ) (r : Reading (List ℕ)) {level levels next : ℕ} {within : Bool} → answered_levels text wanted r ≡ Levelled level levels within next →
-    (ks : List ℕ) × (rest : List ℕ) × (r ≡ got ks rest) ×
-    (Levelled level levels within next ≡ Levelled (capped (get_or ks wanted 0)) (length ks) (all (λ k. leb k max_level) ks) (length text - length rest))
-unfolding answered_levels
-levels_answer text wanted (got ks rest) e = (ks, rest, refl, sym e)
-levels_answer text wanted refused e = let z : ◌≡◌ {A = ℕ} 0 1 = cc in absurd (omega arith)
-
-levels_missing : (text : List ℕ) (wanted : ℕ) (r : Reading (List ℕ)) → answered_levels text wanted r ≡ NoLevels → r ≡ refused
-unfolding answered_levels
-levels_missing text wanted (got ks rest) e = let z : ◌≡◌ {A = ℕ} 0 1 = cc in absurd (omega arith)
-levels_missing text wanted refused e = refl
+both_parts : {levels many : Levels} {next end : ℕ} → levels ≡ many → next ≡ end → ◌≡◌ {A = Levels × ℕ} (levels, next) (many, end)
+both_parts e f = rw (e, f)
 
 module _ (text : List ℕ) (at wanted : ℕ) where
-  pub pair_unopened : word_at text at (opening ∷ []) ≡ false → NoPair ≡ pair_at text at wanted
-  unfolding pair_at answered_pair read_pair and_then
+  pub pair_unopened : word_at text at (opening ∷ []) ≡ false → None ≡ pair_at text at wanted
+  unfolding read_at answered read_pair and_then
   pair_unopened f = rw (byte_none text at opening f)
 
   module _ (opened : word_at text at (opening ∷ []) ≡ true) where
-    pub pair_valueless : number_at text (at + 1) ≡ Refused → NoPair ≡ pair_at text at wanted
-    unfolding pair_at answered_pair read_pair and_then
-    pair_valueless e = rw ((byte_got text at opening opened).0, number_none_read text (at + 1) e)
+    pub pair_valueless : number_at text (at + 1) ≡ None → None ≡ pair_at text at wanted
+    unfolding read_at answered read_pair and_then
+    pair_valueless e = rw ((byte_got text at opening opened).0, read_none capped read_number text (at + 1) e)
 
-    module _ {value after : ℕ} (valued : number_at text (at + 1) ≡ Read value after) where
+    module _ {value after : ℕ} (valued : number_at text (at + 1) ≡ Some (value, after)) where
       pub valued_got : (n : ℕ) × (value ≡ capped n) × GotAt read_number text (at + 1) after n
       valued_got = number_got (omega (arith, (byte_got text at opening opened).1)) valued
 
-      pub pair_levelless : levels_at text after wanted ≡ NoLevels → NoPair ≡ pair_at text at wanted
-      unfolding pair_at answered_pair read_pair and_then levels_at
+      pub pair_levelless : levels_at text after wanted ≡ None → None ≡ pair_at text at wanted
+      unfolding read_at answered read_pair and_then
       pair_levelless e =
-          rw ((byte_got text at opening opened).0, valued_got.2.reads, levels_missing text wanted (parts read_number (drop after text)) e)
+          rw ((byte_got text at opening opened).0, valued_got.2.reads, read_none (levels_of wanted) (parts read_number) text after e)
 
       pub pair_levelled :
-          {level levels next : ℕ} {within : Bool} → levels_at text after wanted ≡ Levelled level levels within next →
-          Paired value level levels within next ≡ pair_at text at wanted
-      unfolding pair_at answered_pair read_pair and_then levels_at level_in
+          {levels : Levels} {next : ℕ} → levels_at text after wanted ≡ Some (levels, next) →
+          Some (record { value = value; levels = levels }, next) ≡ pair_at text at wanted
+      unfolding read_at answered read_pair and_then pair_of
       pair_levelled e =
-          let a = levels_answer text wanted (parts read_number (drop after text)) e in
-          rw ((byte_got text at opening opened).0, valued_got.2.reads, a.2, ← valued_got.1) (cc a.3)
+          let a = read_some (levels_of wanted) (parts read_number) text after e in
+          ap (λ (p : Levels × ℕ). Some (record { value = value; levels = p.0 }, p.1)) (both_parts a.3 a.4) ∙
+          rw ((byte_got text at opening opened).0, valued_got.2.reads, a.2, ← valued_got.1)

@@ -3,22 +3,22 @@ ghost use Rattle.std.specs.Prelude.{◌≡◌, cond, ◌≤◌, eqb, length};
 ghost use Rattle.items.specs.internal.Places.{levels_at, pair_at};
 
 use format::words::byte_at;
-use numerals::numbers::{Number, read_number};
+use numerals::numbers::read_number;
 use tables::sizes::MAX_LEVEL;
 
-// The level of one group, how many levels there are, whether all are within their limit, and the offset after them; or no levels.
-#[derive(Drop)]
-pub enum Levels {
-    Levelled(usize, usize, bool, usize),
-    NoLevels,
+// The level of a pair in one group, how many levels it has, and whether all are within their limit.
+#[derive(Clone, Copy)]
+pub struct Levels {
+    pub level: usize,
+    pub count: usize,
+    pub within: bool,
 }
 
-// The value of a claim pair and its level in one group, how many levels it has, whether all are within their limit, and the
-// offset after it; or none.
-#[derive(Drop)]
-pub enum Pair {
-    Paired(usize, usize, usize, bool, usize),
-    NoPair,
+// The value of a claim pair, and its levels.
+#[derive(Clone, Copy)]
+pub struct Pair {
+    pub value: usize,
+    pub levels: Levels,
 }
 
 // A level if its group is the one that is wanted, and else what was found so far.
@@ -28,8 +28,8 @@ fn chosen(group: usize, wanted: usize, level: usize, found: usize) -> usize
     if group == wanted { level } else { found }
 }
 
-// The levels of a pair, each after one space, up to the closing bracket.
-fn read_levels(text: &[u8], at: usize, wanted: usize) -> Levels
+// The levels of a pair, each after one space, up to the closing bracket, with the offset after it.
+fn read_levels(text: &[u8], at: usize, wanted: usize) -> Option<(Levels, usize)>
     requires { at ≤ length text.now }
     ensures { result ≡ levels_at text.now at wanted }
 {
@@ -38,8 +38,8 @@ fn read_levels(text: &[u8], at: usize, wanted: usize) -> Levels
     let mut within = true;
     let mut found = 0;
     while byte_at(text, next, b' ') {
-        let Number::Read(level, after) = read_number(text, next + 1) else {
-            return Levels::NoLevels;
+        let Some((level, after)) = read_number(text, next + 1) else {
+            return None;
         };
         found = chosen(count, wanted, level, found);
         within = within & (level <= MAX_LEVEL);
@@ -47,23 +47,26 @@ fn read_levels(text: &[u8], at: usize, wanted: usize) -> Levels
         next = after;
     }
     if !byte_at(text, next, b')') {
-        return Levels::NoLevels;
+        return None;
     }
-    Levels::Levelled(found, count, within, next + 1)
+    let levels = Levels {
+        level: found,
+        count,
+        within,
+    };
+    Some((levels, next + 1))
 }
 
-// The pair `(V K ..)` at an offset, with its level in the group that is wanted.
-pub fn read_pair(text: &[u8], at: usize, wanted: usize) -> Pair
+// The pair `(V K ..)` at an offset, with its level in the group that is wanted, and the offset after it.
+pub fn read_pair(text: &[u8], at: usize, wanted: usize) -> Option<(Pair, usize)>
     ensures { result ≡ pair_at text.now at wanted }
 {
     if !byte_at(text, at, b'(') {
-        return Pair::NoPair;
+        return None;
     }
-    let Number::Read(value, after) = read_number(text, at + 1) else {
-        return Pair::NoPair;
+    let Some((value, after)) = read_number(text, at + 1) else {
+        return None;
     };
-    let Levels::Levelled(level, levels, within, next) = read_levels(text, after, wanted) else {
-        return Pair::NoPair;
-    };
-    Pair::Paired(value, level, levels, within, next)
+    let (levels, next) = read_levels(text, after, wanted)?;
+    Some((Pair { value, levels }, next))
 }

@@ -2,35 +2,31 @@
 ghost use Rattle.std.specs.Prelude.{◌≡◌};
 ghost use Rattle.items.specs.internal.Places.{term_read_at};
 
-use crate::literals::{Literal, read_literal};
+use crate::literals::read_literal;
 use format::words::byte_at;
-use numerals::signed::{Signed, read_signed};
+use numerals::signed::read_signed;
 
-// The minutes and the literal's code of a term, with the offset after it; or none.
-#[derive(Drop)]
-pub enum Term {
-    Weighed(i32, usize, usize),
-    NoTerm,
+// The minutes of a term, and the code of its literal.
+#[derive(Clone, Copy)]
+pub struct Term {
+    pub minutes: i32,
+    pub literal: usize,
 }
 
-// The term `(M L)` at an offset.
-pub fn read_term(text: &[u8], at: usize) -> Term
+// The term `(M L)` at an offset, with the offset after it.
+pub fn read_term(text: &[u8], at: usize) -> Option<(Term, usize)>
     ensures { result ≡ term_read_at text.now at }
 {
     if !byte_at(text, at, b'(') {
-        return Term::NoTerm;
+        return None;
     }
-    let Signed::Whole(minutes, after) = read_signed(text, at + 1) else {
-        return Term::NoTerm;
-    };
+    let (minutes, after) = read_signed(text, at + 1)?;
     if !byte_at(text, after, b' ') {
-        return Term::NoTerm;
+        return None;
     }
-    let Literal::Coded(literal, next) = read_literal(text, after + 1) else {
-        return Term::NoTerm;
-    };
+    let (literal, next) = read_literal(text, after + 1)?;
     if !byte_at(text, next, b')') {
-        return Term::NoTerm;
+        return None;
     }
-    Term::Weighed(minutes, literal, next + 1)
+    Some((Term { minutes, literal }, next + 1))
 }

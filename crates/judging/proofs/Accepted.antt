@@ -8,6 +8,7 @@ use native.Mathlib.Omega.{arith}
 use lib.Dec.{leb}
 use lib.ListN.{length}
 use borrow.Author.Tests.{ne_eqb, leb-true, le-leb}
+use Rattle.std.specs.Prelude.{Result, Ok}
 use Rattle.wellfounded.specs.Lists.{all}
 use Rattle.wellfounded.proofs.Tests.{both, first, second}
 use Rattle.tables.specs.Limits.{max_atoms}
@@ -16,12 +17,12 @@ use Rattle.format.specs.declared.kinds.Kind.TheVariants.{Atoms, Claim}
 use Rattle.format.specs.Forms.{Form, render_all}
 use Rattle.format.specs.Views.{kind_in, kind_number, same_kind, of_kind}
 use Rattle.format.proofs.ViewLaws.{same_kind_lem, lists_by_kind}
+use Rattle.tables.specs.declared.Refusal.{Refusal}
 use Rattle.judging.specs.declared.reached.Reached.{Reached}
 use Rattle.judging.specs.declared.reached.Space.{Space}
-use Rattle.judging.specs.declared.reached.Judged.{Judged}
-use Rattle.judging.specs.declared.reached.Judged.TheVariants.{Passed, Failed}
-use Rattle.judging.specs.States.{nothing_yet, atoms_stood, open_stood, start, phase_after, advanced, after, counts_within, fits}
-use Rattle.judging.specs.Judging.{atom_bound, numbers_within, within_limits, may_follow, parts_in_order, in_order, levelled, lines, judge_lines, judge_text, max_bytes, forms_from, forms_of}
+use Rattle.judging.specs.declared.reached.Phase.TheVariants.{NothingYet, AtomsStood, OpenStood}
+use Rattle.judging.specs.States.{rank, start, phase_after, advanced, after, counts_within, fits}
+use Rattle.judging.specs.Judging.{failed, atom_bound, numbers_within, within_limits, may_follow, parts_in_order, in_order, levelled, lines, judge_lines, judge_text, max_bytes, forms_from, forms_of}
 use Rattle.judging.specs.Books.{after_all, IsBook, BookText, passes, all_pass, PassesUpTo}
 use Rattle.judging.proofs.Walking.{judge_passed, forms_all, WalkEnd, accepted, refused_at, walked}
 use Rattle.judging.proofs.Sequences.{follows, may_follow_lem, follows_here, follows_later, phase_on, nothing_after, follows_sequence, sequence_follows}
@@ -59,25 +60,25 @@ module _ (space : Space) (s : Reached) (f : Form) where
   passing_passes p = simp (p.levels, p.numbers, p.counts, p.follows, p.ordered, p.held)
 
 -- Once an atoms form stood, the number of atoms stays.
-size_after : (s : Reached) (f : Form) (fs : List Form) → atoms_stood ≤ s.phase → follows s (f ∷ fs) ≡ true → s.size ≡ (after s f).size
+size_after : (s : Reached) (f : Form) (fs : List Form) → rank AtomsStood ≤ rank s.phase → follows s (f ∷ fs) ≡ true → s.size ≡ (after s f).size
 unfolding after advanced
 size_after s f fs l h = rw ((follows_here s f fs h).no_atoms l)
 
-size_kept_lem : (s : Reached) (fs : List Form) → atoms_stood ≤ s.phase → follows s fs ≡ true → s.size ≡ (after_all s fs).size
+size_kept_lem : (s : Reached) (fs : List Form) → rank AtomsStood ≤ rank s.phase → follows s fs ≡ true → s.size ≡ (after_all s fs).size
 unfolding after_all
 size_kept_lem s [] l h = refl
 size_kept_lem s (f ∷ fs) l h = size_after s f fs l h ∙ size_kept_lem (after s f) fs (phase_on s f fs h) (follows_later s f fs h)
 
-follows_end : (s : Reached) (fs : List Form) → follows s fs ≡ true → open_stood ≤ (after_all s fs).phase
+follows_end : (s : Reached) (fs : List Form) → follows s fs ≡ true → rank OpenStood ≤ rank (after_all s fs).phase
 unfolding after_all follows
 follows_end s [] h = leb-true _ _ h
 follows_end s (f ∷ fs) h = follows_end (after s f) fs (follows_later s f fs h)
 
 -- A form that may follow is tested alike in two states that agree on the number of atoms.
-module _ (s t : Reached) (agree : atoms_stood ≤ s.phase → s.size ≡ t.size) (stood : atoms_stood ≤ t.phase) where
-  bound_same : atoms_stood ≤ s.phase → atom_bound s ≡ atom_bound t
+module _ (s t : Reached) (agree : rank AtomsStood ≤ rank s.phase → s.size ≡ t.size) (stood : rank AtomsStood ≤ rank t.phase) where
+  bound_same : rank AtomsStood ≤ rank s.phase → atom_bound s ≡ atom_bound t
   unfolding atom_bound
-  bound_same l = rw (ne_eqb s.phase nothing_yet (λ e. omega arith), ne_eqb t.phase nothing_yet (λ e. omega arith)) (agree l)
+  bound_same l = rw (ne_eqb (rank s.phase) (rank NothingYet) (λ e. omega arith), ne_eqb (rank t.phase) (rank NothingYet) (λ e. omega arith)) (agree l)
 
   -- An atoms form names no atoms one by one; before every other form that may follow one stood.
   numbers_same : (f : Form) → may_follow (kind_in f) s.phase ≡ true → numbers_within s f ≡ numbers_within t f
@@ -101,7 +102,7 @@ levels_same : (s : Reached) (f : Form) (fs : List Form) → follows s (f ∷ fs)
 unfolding levelled all after_all after advanced phase_after
 levels_same s f fs h = step (same_kind (kind_in f) Claim) refl
   where
-    last : same_kind (kind_in f) Claim ≡ true → open_stood ≤ (after s f).phase
+    last : same_kind (kind_in f) Claim ≡ true → rank OpenStood ≤ rank (after s f).phase
     last e = rw (same_kind_lem (kind_in f) Claim e) (omega arith)
 
     step : (b : Bool) → same_kind (kind_in f) Claim ≡ b → levelled s f ≡ levelled (after_all (after s f) fs) f
@@ -116,7 +117,7 @@ pub record Tested (s : Reached) (fs : List Form) : Type 0 where
 
 -- Forms that pass may follow each other and pass the tests at the end; and the other way round.
 module _ (space : Space) where
-  passed_follows : (s : Reached) (fs : List Form) → all_pass space s fs ≡ true → open_stood ≤ (after_all s fs).phase → follows s fs ≡ true
+  passed_follows : (s : Reached) (fs : List Form) → all_pass space s fs ≡ true → rank OpenStood ≤ rank (after_all s fs).phase → follows s fs ≡ true
   unfolding all_pass after_all follows
   passed_follows s [] h l = le-leb _ _ l
   passed_follows s (f ∷ fs) h l =
@@ -139,8 +140,8 @@ module _ (space : Space) where
   passed_tested s (f ∷ fs) g h =
       let here = passing space s f (first (passes space s f) _ h) in
       let later = passed_tested (after s f) fs (second (may_follow (kind_in f) s.phase) _ g) (second (passes space s f) _ h) in
-      let end : atoms_stood ≤ (after_all (after s f) fs).phase = omega (arith, follows_end s (f ∷ fs) g) in
-      let agree : atoms_stood ≤ s.phase → s.size ≡ (after_all (after s f) fs).size = (λ l. size_kept_lem s (f ∷ fs) l g) in
+      let end : rank AtomsStood ≤ rank (after_all (after s f) fs).phase = omega (arith, follows_end s (f ∷ fs) g) in
+      let agree : rank AtomsStood ≤ rank s.phase → s.size ≡ (after_all (after s f) fs).size = (λ l. size_kept_lem s (f ∷ fs) l g) in
       record {
         levels = both _ _ (sym (levels_same s f fs g) ∙ here.levels) later.levels;
         numbers = both _ _ (sym (numbers_same s _ agree end f here.follows) ∙ here.numbers) later.numbers;
@@ -156,8 +157,8 @@ module _ (space : Space) where
       let end = after_all (after s f) fs in
       let may = first (may_follow (kind_in f) s.phase) _ g in
       let onwards = second (may_follow (kind_in f) s.phase) _ g in
-      let stood : atoms_stood ≤ end.phase = omega (arith, follows_end s (f ∷ fs) g) in
-      let agree : atoms_stood ≤ s.phase → s.size ≡ (after_all (after s f) fs).size = (λ l. size_kept_lem s (f ∷ fs) l g) in
+      let stood : rank AtomsStood ≤ rank end.phase = omega (arith, follows_end s (f ∷ fs) g) in
+      let agree : rank AtomsStood ≤ rank s.phase → s.size ≡ (after_all (after s f) fs).size = (λ l. size_kept_lem s (f ∷ fs) l g) in
       let rest : Tested (after s f) fs = record { levels = second (levelled end f) _ t.levels; numbers = second (numbers_within end f) _ t.numbers; ordered = second (parts_in_order end f) _ t.ordered } in
       both (passes space s f) _
       (passing_passes space s f (record {
@@ -184,7 +185,7 @@ passed_size space fs p = size_within space _ fs (omega arith) p.passed
 
 -- Forms pass in turn up to a state form exactly if they are a book.
 module _ (space : Space) (fs : List Form) where
-  pub passed_book : PassesUpTo space fs → open_stood ≤ (after_all start fs).phase → IsBook space fs
+  pub passed_book : PassesUpTo space fs → rank OpenStood ≤ rank (after_all start fs).phase → IsBook space fs
   passed_book p l =
       let g = passed_follows space start fs p.passed l in
       let t = passed_tested space start fs g p.passed in
@@ -197,7 +198,7 @@ module _ (space : Space) (fs : List Form) where
         held = passed_held space start fs p.passed (start_fits space);
       }
 
-  pub book_passed : IsBook space fs → PassesUpTo space fs × (open_stood ≤ (after_all start fs).phase)
+  pub book_passed : IsBook space fs → PassesUpTo space fs × (rank OpenStood ≤ rank (after_all start fs).phase)
   book_passed b =
       let g = sequence_follows fs b.sequence in
       let t : Tested start fs = record { levels = b.levels; numbers = b.numbers; ordered = b.ordered } in
@@ -206,33 +207,33 @@ module _ (space : Space) (fs : List Form) where
 -- The accepted texts are the renderings of books.
 module _ (space : Space) (text : List ℕ) where
   pub accepted_book :
-      (t : Reached) → judge_text space text ≡ Passed t →
+      (t : Reached) → judge_text space text ≡ Ok t →
       (fs : List Form) × BookText space text fs × (t ≡ after_all start fs) × (forms_of text ≡ fs)
   unfolding judge_text forms_of
   accepted_book t e = step (leb (length text) max_bytes) refl e
     where
       found :
-          length text ≤ max_bytes → (j : Judged) → WalkEnd space text j → j ≡ Passed t →
+          length text ≤ max_bytes → (j : Result Reached Refusal) → WalkEnd space text j → j ≡ Ok t →
           (fs : List Form) × BookText space text fs × (t ≡ after_all start fs) × (forms_from start (lines text) ≡ fs)
       found short j (accepted fs p whole l same) h =
           (fs, record { rendered = whole; short = short; book = passed_book space fs p l }, cc, rw whole (forms_all space start fs p.passed))
       found short j (refused_at fault at why same) h = let z : ◌≡◌ {A = ℕ} 0 1 = cc in absurd (omega arith)
 
       step :
-          (b : Bool) → leb (length text) max_bytes ≡ b → cond b (judge_lines space start 0 (lines text)) (Failed OutsideLimits 0) ≡ Passed t →
+          (b : Bool) → leb (length text) max_bytes ≡ b → cond b (judge_lines space start 0 (lines text)) (failed OutsideLimits 0) ≡ Ok t →
           (fs : List Form) × BookText space text fs × (t ≡ after_all start fs) × (forms_from start (lines text) ≡ fs)
       step true l h = let short = leb-true _ _ l in found short _ (walked space text short) h
       step false l h = let z : ◌≡◌ {A = ℕ} 0 1 = cc in absurd (omega arith)
 
-  pub book_accepted : (fs : List Form) → BookText space text fs → judge_text space text ≡ Passed (after_all start fs)
+  pub book_accepted : (fs : List Form) → BookText space text fs → judge_text space text ≡ Ok (after_all start fs)
   unfolding judge_text judge_lines lines
   book_accepted fs b =
       let k = book_passed space fs b.book in
       let whole : text ≡ render_all fs ++ [] = b.rendered ∙ sym (append-nil (render_all fs)) in
-      rw (le-leb (length text) max_bytes b.short, whole) (judge_passed space start 0 fs [] k.0.passed ∙ rw (le-leb open_stood _ k.1))
+      rw (le-leb (length text) max_bytes b.short, whole) (judge_passed space start 0 fs [] k.0.passed ∙ rw (le-leb (rank OpenStood) _ k.1))
 
   -- N is at most 1,024.
-  pub accepted_size : (t : Reached) → judge_text space text ≡ Passed t → t.size ≤ max_atoms
+  pub accepted_size : (t : Reached) → judge_text space text ≡ Ok t → t.size ≤ max_atoms
   accepted_size t e =
       let k = accepted_book t e in
       rw k.2 (passed_size space k.0 (book_passed space k.0 k.1.book).0)

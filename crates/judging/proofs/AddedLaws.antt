@@ -16,7 +16,8 @@ use Rattle.format.specs.Views.{kind_number, same_kind}
 use Rattle.judging.specs.declared.reached.Reached.{Reached}
 use Rattle.judging.specs.declared.reached.Space.{Space}
 use Rattle.judging.specs.LentTables.{Rules, Literals, Clauses, Loads, LoadLiterals, Minutes, every_table, room_in}
-use Rattle.judging.specs.States.{open_stood, claim_stood, phase_after, advanced, counts_within, groups_reached, values_counted, levels_counted, count_in, fits}
+use Rattle.judging.specs.declared.reached.Phase.TheVariants.{OpenStood, ClaimStood}
+use Rattle.judging.specs.States.{rank, phase_after, advanced, counts_within, groups_reached, values_counted, levels_counted, count_in, fits}
 use Rattle.judging.specs.internal.Shapes.{added, CountsFit}
 use Rattle.judging.proofs.Counts.{CountsWithin, counts_within_lem, fits_each}
 use Rattle.judging.proofs.StateLaws.{groups_claim}
@@ -113,7 +114,8 @@ module _ (space : Space) (s : Reached) (size parts : ℕ) (fitted : CountsFit sp
 
     -- and need space only where they tell a state.
     pub other_space :
-        leb open_stood (phase_after kind) ≡ false → leb claim_stood (phase_after kind) ≡ false → true ≡ fits space (added s kind size parts)
+        leb (rank OpenStood) (rank (phase_after kind)) ≡ false → leb (rank ClaimStood) (rank (phase_after kind)) ≡ false →
+        true ≡ fits space (added s kind size parts)
     unfolding added advanced fits every_table count_in room_in values_counted levels_counted
     other_space o c =
         simp (

@@ -14,7 +14,8 @@ use Rattle.format.specs.Forms.{Form}
 use Rattle.judging.specs.declared.reached.Reached.{Reached}
 use Rattle.judging.specs.declared.reached.Space.{Space}
 use Rattle.judging.specs.LentTables.{Table, room_in}
-use Rattle.judging.specs.States.{in_loads, start, advanced, after, counts_within, count_in, fits}
+use Rattle.judging.specs.declared.reached.Phase.TheVariants.{InLoads}
+use Rattle.judging.specs.States.{rank, start, advanced, after, counts_within, count_in, fits}
 use Rattle.judging.specs.Books.{after_all}
 use Rattle.judging.proofs.StateLaws.{values_early, levels_early}
 use Rattle.judging.proofs.TableLaws.{each_table, every_use, every_make, start_count}
@@ -75,7 +76,7 @@ counts_before s [] t = t
 counts_before s (f ∷ fs) t = within_counts s (counted_before (form_grows s f) (counts_within_lem _ (counts_before (after s f) fs t)))
 
 -- Before a state form neither marks nor values nor levels are counted.
-counts_grow : {s t : Reached} → s.phase ≤ in_loads → Grows s t → (table : Table) → count_in s table ≤ count_in t table
+counts_grow : {s t : Reached} → rank s.phase ≤ rank InLoads → Grows s t → (table : Table) → count_in s table ≤ count_in t table
 unfolding count_in
 counts_grow {s} {t} early g =
     each_table (λ table. count_in s table ≤ count_in t table) g.rules g.literals g.clauses g.loads g.terms g.terms

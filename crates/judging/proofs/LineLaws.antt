@@ -18,9 +18,8 @@ use Rattle.format.proofs.Lines.{render_parse, parse_render, line_reads, line_wri
 use Rattle.format.proofs.Texts.{ends_none, OneLine, render_line}
 use Rattle.judging.specs.declared.reached.Reached.{Reached}
 use Rattle.judging.specs.declared.reached.Space.{Space}
-use Rattle.judging.specs.declared.reached.Judged.TheVariants.{Failed}
 use Rattle.judging.specs.States.{after}
-use Rattle.judging.specs.Judging.{LineText, prepend, lines, levelled, if_levelled, form_in, judge_form, judge_reading, judge_line, continued, judge_lines, cons_read, forms_from}
+use Rattle.judging.specs.Judging.{failed, LineText, prepend, lines, levelled, if_levelled, form_in, judge_form, judge_reading, judge_line, continued, judge_lines, cons_read, forms_from}
 
 -- Bytes that end no line are a line with the byte after them that does.
 pub lines_inside :
@@ -132,7 +131,7 @@ judge_line_lem space s at f rest h = rw (lines_line f rest, form_line s f h)
 
 pub judge_refused :
     (space : Space) (s : Reached) (at b : ℕ) (bs : List ℕ) → if_levelled s (read_line (b ∷ bs)) ≡ refused →
-    judge_lines space s at (lines (b ∷ bs)) ≡ Failed Malformed at
+    judge_lines space s at (lines (b ∷ bs)) ≡ failed Malformed at
 unfolding judge_lines judge_line judge_reading continued
 judge_refused space s at b bs none = let k = line_refused s b bs none in rw (k.2, k.3)
 

@@ -22,8 +22,7 @@ use Rattle.numerals.specs.declared.bytes.Class.{Class}
 use Rattle.numerals.specs.declared.bytes.Class.TheVariants.{Digit, Letter, Opening, Closing, Space as SpaceByte, Minus, LineEnd, Other}
 use Rattle.numerals.specs.Bytes.{is_letter, class_of}
 use Rattle.judging.specs.declared.reached.Space.{Space}
-use Rattle.judging.specs.declared.reached.Judged.TheVariants.{Failed}
-use Rattle.judging.specs.Judging.{judge_text, max_bytes}
+use Rattle.judging.specs.Judging.{failed, judge_text, max_bytes}
 use Rattle.judging.specs.Books.{PassesUpTo, no_form}
 use Rattle.judging.proofs.Refusals.{first_refused}
 
@@ -116,7 +115,7 @@ no_form_lem (d ∷ line) (c ∷ front) b rest later h k o e =
     no_form_lem line front b rest later (second (known d) _ h) (second (ends_none c) _ k) o (cc)
 
 -- The text is refused with 1 at that line's first byte.
-pub other_refused : (space : Space) (text : List ℕ) (at : ℕ) → OtherByte space text at → judge_text space text ≡ Failed Malformed at
+pub other_refused : (space : Space) (text : List ℕ) (at : ℕ) → OtherByte space text at → judge_text space text ≡ failed Malformed at
 other_refused space text at k =
     first_refused space text Malformed at (no_form (record {
       short = k.short;

@@ -8,9 +8,11 @@ use native.Mathlib.Omega.{arith}
 use lib.Dec.{eqb, ltb}
 use lib.ListN.{length}
 use borrow.Author.Tests.{ltb-true, not-true, not-false}
+use Rattle.std.specs.Prelude.{Result, Ok, Err}
 use Rattle.wellfounded.specs.Lists.{all}
 use Rattle.wellfounded.proofs.Tests.{first, second}
 use Rattle.tables.specs.Limits.{max_atoms}
+use Rattle.tables.specs.declared.Fault.{Fault}
 use Rattle.tables.specs.declared.Fault.TheVariants.{OutsideLimits, OutOfOrder, NoSpace}
 use Rattle.format.specs.declared.kinds.Kind.TheVariants.{Rule, Clause, Load, Open, Claim, Defined}
 use Rattle.format.specs.Forms.{Form, render}
@@ -22,9 +24,8 @@ use Rattle.judging.specs.declared.reached.Reached.{Reached}
 use Rattle.judging.specs.declared.reached.Space.{Space}
 use Rattle.judging.specs.declared.reached.Shape.{Shape}
 use Rattle.judging.specs.declared.reached.Counted.{Counted}
-use Rattle.judging.specs.declared.reached.Move.TheVariants.{On, Stop}
 use Rattle.judging.specs.States.{advanced, after, counts_within, fits}
-use Rattle.judging.specs.Judging.{atom_bound, numbers_within, within_limits, may_follow, rises_from, parts_in_order, in_order, Step, on, stop, judge_form}
+use Rattle.judging.specs.Judging.{atom_bound, numbers_within, within_limits, may_follow, rises_from, parts_in_order, in_order, judge_form}
 use Rattle.judging.specs.internal.Shapes.{capped_rise, parts_in, shape_of, order_of, added, reached_by, judge_shape, CountedAs, as_move}
 use Rattle.judging.proofs.LimitLaws.{size_limit, atoms_limit}
 use Rattle.judging.proofs.StateLaws.{bound_most}
@@ -107,12 +108,12 @@ pub shape_judged : (space : Space) (s : Reached) (f : Form) → s.size ≤ max_a
 unfolding judge_shape shape_of reached_by after judge_form within_limits in_order
 shape_judged space s f l = rw (same_parts s f (capped (view_of f).size)) (step (numbers_within s f) refl)
   where
-    judged : Bool → ℕ → Bool → Step
+    judged : Bool → ℕ → Bool → Result Reached Fault
     judged within size ordered =
         let then = advanced s (kind_in f) size (length (view_of f).literals) (length (view_of f).terms) in
         cond (within && counts_within then)
-        (cond (may_follow (kind_in f) s.phase && ordered) (cond (fits space then) (on then) (stop NoSpace)) (stop OutOfOrder))
-        (stop OutsideLimits)
+        (cond (may_follow (kind_in f) s.phase && ordered) (cond (fits space then) (Ok then) (Err NoSpace)) (Err OutOfOrder))
+        (Err OutsideLimits)
 
     step :
         (t : Bool) → numbers_within s f ≡ t →
@@ -124,19 +125,19 @@ shape_judged space s f l = rw (same_parts s f (capped (view_of f).size)) (step (
 -- Code counts a form of some shape, and tests its limits, then its order and then the space for it.
 module _ (space : Space) (s : Reached) (shape : Shape) (next : ℕ) {answer : Counted}
     (counts : CountedAs space (added s shape.kind shape.size shape.parts) answer) where
-  pub shape_outside_limits : not (shape.within && answer.within) ≡ true → Stop OutsideLimits ≡ as_move next (judge_shape space s shape)
+  pub shape_outside_limits : not (shape.within && answer.within) ≡ true → Err OutsideLimits ≡ as_move next (judge_shape space s shape)
   unfolding reached_by judge_shape as_move
   shape_outside_limits t = rw (← counts.limits, not-true (shape.within && answer.within) t)
 
   module _ {follows ordered : Bool} (limits : not (shape.within && answer.within) ≡ false) (follow : follows ≡ may_follow shape.kind s.phase)
       (order : ordered ≡ order_of s shape.kind shape.parts shape.rising) where
-    pub shape_out_of_order : not (follows && ordered) ≡ true → Stop OutOfOrder ≡ as_move next (judge_shape space s shape)
+    pub shape_out_of_order : not (follows && ordered) ≡ true → Err OutOfOrder ≡ as_move next (judge_shape space s shape)
     unfolding reached_by judge_shape as_move
     shape_out_of_order t =
         rw (← counts.limits, ← follow, ← order, not-false (shape.within && answer.within) limits, not-true (follows && ordered) t)
 
     pub shape_no_space :
-        not (follows && ordered) ≡ false → not answer.fits ≡ true → Stop NoSpace ≡ as_move next (judge_shape space s shape)
+        not (follows && ordered) ≡ false → not answer.fits ≡ true → Err NoSpace ≡ as_move next (judge_shape space s shape)
     unfolding reached_by judge_shape as_move
     shape_no_space f t =
         rw (
@@ -150,7 +151,7 @@ module _ (space : Space) (s : Reached) (shape : Shape) (next : ℕ) {answer : Co
         )
 
     pub shape_moves_on :
-        not (follows && ordered) ≡ false → not answer.fits ≡ false → On answer.then next ≡ as_move next (judge_shape space s shape)
+        not (follows && ordered) ≡ false → not answer.fits ≡ false → Ok (answer.then, next) ≡ as_move next (judge_shape space s shape)
     unfolding reached_by judge_shape as_move
     shape_moves_on f g =
         rw (

@@ -6,19 +6,21 @@ use mathlib.Core.Bool.{Bool, true, false, cond, ◌||◌}
 use native.Mathlib.Omega.{arith}
 use lib.Dec.{eqb, leb}
 use borrow.Author.Tests.{le-leb, lt-leb}
+use Rattle.std.specs.Prelude.{Ok, Err}
 use Rattle.wellfounded.proofs.Tests.{first, second}
 use Rattle.tables.specs.Limits.{max_atoms}
 use Rattle.tables.specs.declared.Fault.TheVariants.{OutsideLimits, OutOfOrder, NoSpace}
 use Rattle.format.specs.declared.kinds.Kind.{Kind}
-use Rattle.format.specs.declared.kinds.Kind.TheVariants.{Atoms, Rule, Clause, Load, Open, Claim, Defined, Unknown}
+use Rattle.format.specs.declared.kinds.Kind.TheVariants.{Atoms, Rule, Clause, Load, Open, Claim, Defined}
 use Rattle.format.specs.Forms.{Form}
 use Rattle.format.specs.Views.{view_of, kind_in, kind_number, same_kind}
 use Rattle.format.proofs.ViewLaws.{same_kind_lem}
 use Rattle.judging.specs.declared.reached.Reached.{Reached}
 use Rattle.judging.specs.declared.reached.Space.{Space}
-use Rattle.judging.specs.States.{nothing_yet, open_stood, claim_stood, start, phase_after, advanced, after, counts_within, groups_reached, values_counted, levels_counted, fits}
+use Rattle.judging.specs.declared.reached.Phase.TheVariants.{NothingYet, OpenStood, ClaimStood}
+use Rattle.judging.specs.States.{rank, start, phase_after, advanced, after, counts_within, groups_reached, values_counted, levels_counted, fits}
 use Rattle.judging.proofs.LimitLaws.{size_limit}
-use Rattle.judging.specs.Judging.{atom_bound, numbers_within, within_limits, in_order, on, stop, judge_form, max_bytes}
+use Rattle.judging.specs.Judging.{atom_bound, numbers_within, within_limits, in_order, judge_form, max_bytes}
 
 -- Before the first line all counts are within the limits.
 pub start_limits : counts_within start ≡ true
@@ -41,7 +43,7 @@ after_size s f l t = step (same_kind (kind_in f) Atoms)
 -- Named atoms have a bound within the limits of a book.
 pub bound_most : (s : Reached) → s.size ≤ max_atoms → atom_bound s ≤ max_atoms
 unfolding atom_bound
-bound_most s l = step (eqb s.phase nothing_yet)
+bound_most s l = step (eqb (rank s.phase) (rank NothingYet))
   where
     step : (t : Bool) → cond t max_atoms s.size ≤ max_atoms
     step true = omega arith
@@ -49,21 +51,21 @@ bound_most s l = step (eqb s.phase nothing_yet)
 
 -- Values are counted from a state form on, levels from a claim on, and never more than one for each atom, in each group.
 module _ (s : Reached) where
-  pub values_early : s.phase < open_stood → values_counted s ≡ 0
+  pub values_early : rank s.phase < rank OpenStood → values_counted s ≡ 0
   unfolding values_counted
-  values_early l = rw (lt-leb open_stood s.phase l)
+  values_early l = rw (lt-leb (rank OpenStood) (rank s.phase) l)
 
-  pub levels_early : s.phase < claim_stood → levels_counted s ≡ 0
+  pub levels_early : rank s.phase < rank ClaimStood → levels_counted s ≡ 0
   unfolding levels_counted
-  levels_early l = rw (lt-leb claim_stood s.phase l)
+  levels_early l = rw (lt-leb (rank ClaimStood) (rank s.phase) l)
 
-  pub values_told : open_stood ≤ s.phase → values_counted s ≡ s.size
+  pub values_told : rank OpenStood ≤ rank s.phase → values_counted s ≡ s.size
   unfolding values_counted
-  values_told l = rw (le-leb open_stood s.phase l)
+  values_told l = rw (le-leb (rank OpenStood) (rank s.phase) l)
 
-  pub levels_told : claim_stood ≤ s.phase → levels_counted s ≡ s.size * groups_reached s
+  pub levels_told : rank ClaimStood ≤ rank s.phase → levels_counted s ≡ s.size * groups_reached s
   unfolding levels_counted
-  levels_told l = rw (le-leb claim_stood s.phase l)
+  levels_told l = rw (le-leb (rank ClaimStood) (rank s.phase) l)
 
   all_or_none : (t : Bool) (n : ℕ) → cond t n 0 ≤ n
   all_or_none true n = omega arith
@@ -71,11 +73,11 @@ module _ (s : Reached) where
 
   pub values_few : values_counted s ≤ s.size
   unfolding values_counted
-  values_few = all_or_none (leb open_stood s.phase) s.size
+  values_few = all_or_none (leb (rank OpenStood) (rank s.phase)) s.size
 
   pub levels_few : levels_counted s ≤ s.size * groups_reached s
   unfolding levels_counted
-  levels_few = all_or_none (leb claim_stood s.phase) (s.size * groups_reached s)
+  levels_few = all_or_none (leb (rank ClaimStood) (rank s.phase)) (s.size * groups_reached s)
 
 -- There is a group at least, and there are no more than a text has bytes.
 pub groups_some : (s : Reached) → (1 ≤ groups_reached s) × (groups_reached s ≤ max_bytes)
@@ -94,8 +96,8 @@ groups_after s f e = rw (same_kind_lem (kind_in f) Claim e) (groups_claim s _ _ 
 -- A form that tells a state counts a value for each atom, and a claim a level for each atom in each group; after other forms there are none.
 kind_counts :
     (k : Kind) (n size before after : ℕ) → (same_kind k Claim ≡ true → after ≡ before) →
-    (cond (leb open_stood (phase_after k)) (cond (same_kind k Atoms) n size) 0 ≡ cond (same_kind k Open || same_kind k Claim) size 0)
-    × (cond (leb claim_stood (phase_after k)) (cond (same_kind k Atoms) n size * after) 0 ≡ cond (same_kind k Claim) (size * before) 0)
+    (cond (leb (rank OpenStood) (rank (phase_after k))) (cond (same_kind k Atoms) n size) 0 ≡ cond (same_kind k Open || same_kind k Claim) size 0)
+    × (cond (leb (rank ClaimStood) (rank (phase_after k))) (cond (same_kind k Atoms) n size * after) 0 ≡ cond (same_kind k Claim) (size * before) 0)
 unfolding phase_after same_kind kind_number
 kind_counts Atoms n size before after same = (refl, refl)
 kind_counts Rule n size before after same = (refl, refl)
@@ -104,7 +106,6 @@ kind_counts Load n size before after same = (refl, refl)
 kind_counts Open n size before after same = (refl, refl)
 kind_counts Claim n size before after same = (refl, rw (same refl))
 kind_counts Defined n size before after same = (refl, refl)
-kind_counts Unknown n size before after same = (refl, refl)
 
 module _ (s : Reached) (f : Form) where
   pub values_after : values_counted (after s f) ≡ cond (same_kind (kind_in f) Open || same_kind (kind_in f) Claim) s.size 0
@@ -117,7 +118,7 @@ module _ (s : Reached) (f : Form) where
 
 -- A form judged well is within its limits, in order, and has space.
 judged_on :
-    (a b c : Bool) (s t : Reached) → cond a (cond b (cond c (on s) (stop NoSpace)) (stop OutOfOrder)) (stop OutsideLimits) ≡ on t →
+    (a b c : Bool) (s t : Reached) → cond a (cond b (cond c (Ok s) (Err NoSpace)) (Err OutOfOrder)) (Err OutsideLimits) ≡ Ok t →
     (a ≡ true) × (b ≡ true) × (c ≡ true) × (t ≡ s)
 judged_on true true true s t e = (refl, refl, refl, cc)
 judged_on true true false s t e = let z : ◌≡◌ {A = ℕ} 0 1 = cc in absurd (omega arith)
@@ -125,7 +126,7 @@ judged_on true false c s t e = let z : ◌≡◌ {A = ℕ} 0 1 = cc in absurd (o
 judged_on false b c s t e = let z : ◌≡◌ {A = ℕ} 0 1 = cc in absurd (omega arith)
 
 pub judge_on :
-    (space : Space) (s : Reached) (f : Form) (t : Reached) → judge_form space s f ≡ on t →
+    (space : Space) (s : Reached) (f : Form) (t : Reached) → judge_form space s f ≡ Ok t →
     (within_limits s f ≡ true) × (in_order s f ≡ true) × (fits space (after s f) ≡ true) × (t ≡ after s f)
 unfolding judge_form
 judge_on space s f t e = judged_on (within_limits s f) (in_order s f) (fits space (after s f)) (after s f) t e

@@ -8,18 +8,19 @@ use native.Mathlib.Omega.{arith}
 use lib.Dec.{leb}
 use lib.ListN.{length, length-append}
 use borrow.Author.Tests.{leb-true, leb-false}
+use Rattle.std.specs.Prelude.{Result, Ok, Err}
 use Rattle.wellfounded.proofs.Tests.{both, first, second}
 use Rattle.tables.specs.declared.Fault.{Fault}
 use Rattle.tables.specs.declared.Fault.TheVariants.{Malformed, OutsideLimits, OutOfOrder, NoSpace}
 use Rattle.format.specs.Forms.{Form, line_end, render, render_all}
 use Rattle.format.specs.Parse.{Reading, got, refused, read_line}
 use Rattle.format.proofs.Lines.{line_reads}
+use Rattle.tables.specs.declared.Refusal.{Refusal}
 use Rattle.judging.specs.declared.reached.Reached.{Reached}
 use Rattle.judging.specs.declared.reached.Space.{Space}
-use Rattle.judging.specs.declared.reached.Judged.{Judged}
-use Rattle.judging.specs.declared.reached.Judged.TheVariants.{Passed, Failed}
-use Rattle.judging.specs.States.{open_stood, start, after, fits}
-use Rattle.judging.specs.Judging.{within_limits, in_order, Step, on, stop, judge_form, levelled, if_levelled, lines, continued, judge_lines, max_bytes, forms_from}
+use Rattle.judging.specs.declared.reached.Phase.TheVariants.{OpenStood}
+use Rattle.judging.specs.States.{rank, start, after, fits}
+use Rattle.judging.specs.Judging.{failed, within_limits, in_order, judge_form, levelled, if_levelled, lines, continued, judge_lines, max_bytes, forms_from}
 use Rattle.judging.specs.Books.{after_all, passes, all_pass, PassesUpTo, FirstRefused, no_form, not_passing, no_state}
 use Rattle.judging.proofs.LineLaws.{levelled_stays, levelled_got, line_formed, judge_line_lem, judge_refused, forms_line}
 
@@ -29,19 +30,19 @@ module _ (space : Space) (s : Reached) (f : Form) where
   unfolding passes
   passes_levelled h = first (levelled s f) _ h
 
-  pub passes_on : passes space s f ≡ true → judge_form space s f ≡ on (after s f)
+  pub passes_on : passes space s f ≡ true → judge_form space s f ≡ Ok (after s f)
   unfolding passes judge_form
   passes_on h =
       let judged = second (levelled s f) _ h in
       let later = second (within_limits s f) _ judged in
       rw (first (within_limits s f) _ judged, first (in_order s f) _ later, second (in_order s f) _ later)
 
-  pub on_passes : (t : Reached) → levelled s f ≡ true → judge_form space s f ≡ on t → passes space s f ≡ true
+  pub on_passes : (t : Reached) → levelled s f ≡ true → judge_form space s f ≡ Ok t → passes space s f ≡ true
   unfolding passes judge_form
   on_passes t l h = both (levelled s f) _ l (step (within_limits s f) (in_order s f) (fits space (after s f)) h)
     where
       step :
-          (a b c : Bool) → cond a (cond b (cond c (on (after s f)) (stop NoSpace)) (stop OutOfOrder)) (stop OutsideLimits) ≡ on t →
+          (a b c : Bool) → cond a (cond b (cond c (Ok (after s f)) (Err NoSpace)) (Err OutOfOrder)) (Err OutsideLimits) ≡ Ok t →
           (a && (b && c)) ≡ true
       step true true true e = refl
       step true true false e = let z : ◌≡◌ {A = ℕ} 0 1 = cc in absurd (omega arith)
@@ -93,11 +94,11 @@ forms_all space s (f ∷ fs) h =
     ∙ ap (λ (gs : List Form). f ∷ gs) (forms_all space (after s f) fs (second (passes space s f) _ h))
 
 -- What the walk over a text comes to: all its forms pass and the last tells the state, or the text is refused.
-pub data WalkEnd (space : Space) (text : List ℕ) (j : Judged) : Type 0 where
+pub data WalkEnd (space : Space) (text : List ℕ) (j : Result Reached Refusal) : Type 0 where
   accepted :
-      (fs : List Form) → PassesUpTo space fs → text ≡ render_all fs → open_stood ≤ (after_all start fs).phase → j ≡ Passed (after_all start fs) →
-      WalkEnd space text j
-  refused_at : (fault : Fault) (at : ℕ) → FirstRefused space text fault at → j ≡ Failed fault at → WalkEnd space text j
+      (fs : List Form) → PassesUpTo space fs → text ≡ render_all fs → rank OpenStood ≤ rank (after_all start fs).phase →
+      j ≡ Ok (after_all start fs) → WalkEnd space text j
+  refused_at : (fault : Fault) (at : ℕ) → FirstRefused space text fault at → j ≡ failed fault at → WalkEnd space text j
 
 module _ (space : Space) (text : List ℕ) (short : length text ≤ max_bytes) where
   -- The rest of a text, after forms that pass.
@@ -105,19 +106,19 @@ module _ (space : Space) (text : List ℕ) (short : length text ≤ max_bytes) w
     pub passing : PassesUpTo space before
     pub whole : text ≡ render_all before ++ rest
 
-  abbrev judged : List Form → List ℕ → Judged
+  abbrev judged : List Form → List ℕ → Result Reached Refusal
   judged before rest = judge_lines space (after_all start before) (length (render_all before)) (lines rest)
 
   ended : (before : List Form) → Rest before [] → WalkEnd space text (judged before [])
   unfolding judge_lines lines
-  ended before r = step (leb open_stood (after_all start before).phase) refl
+  ended before r = step (leb (rank OpenStood) (rank (after_all start before).phase)) refl
     where
       all_read : text ≡ render_all before
       all_read = r.whole ∙ append-nil (render_all before)
 
       step :
-          (t : Bool) → leb open_stood (after_all start before).phase ≡ t →
-          WalkEnd space text (cond t (Passed (after_all start before)) (Failed OutOfOrder (length (render_all before))))
+          (t : Bool) → leb (rank OpenStood) (rank (after_all start before).phase) ≡ t →
+          WalkEnd space text (cond t (Ok (after_all start before)) (failed OutOfOrder (length (render_all before))))
       step true e = accepted before r.passing all_read (leb-true _ _ e) refl
       step false e =
           refused_at OutOfOrder (length (render_all before))
@@ -159,7 +160,7 @@ module _ (space : Space) (text : List ℕ) (short : length text ≤ max_bytes) w
       (before : List Form) (f : Form) (rest : List ℕ) (r : Rest before (render f ++ (line_end ∷ rest)))
       (levels : levelled (after_all start before) f ≡ true) where
     stopped :
-        (fault : Fault) → judge_form space (after_all start before) f ≡ stop fault →
+        (fault : Fault) → judge_form space (after_all start before) f ≡ Err fault →
         WalkEnd space text (judged before (render f ++ (line_end ∷ rest)))
     unfolding continued
     stopped fault e =
@@ -186,11 +187,11 @@ module _ (space : Space) (text : List ℕ) (short : length text ≤ max_bytes) w
     went later = step (judge_form space (after_all start before) f) refl
       where
         step :
-            (m : Step) → judge_form space (after_all start before) f ≡ m → WalkEnd space text (judged before (render f ++ (line_end ∷ rest)))
-        step (on t) e =
+            (m : Result Reached Fault) → judge_form space (after_all start before) f ≡ m → WalkEnd space text (judged before (render f ++ (line_end ∷ rest)))
+        step (Ok t) e =
             let h = on_passes space (after_all start before) f t levels e in
-            subst (λ (j : Judged). WalkEnd space text j) (sym (judged_more h)) (later (rest_more h))
-        step (stop fault) e = stopped fault e
+            subst (λ (j : Result Reached Refusal). WalkEnd space text j) (sym (judged_more h)) (later (rest_more h))
+        step (Err fault) e = stopped fault e
 
   walk : (fuel : ℕ) (before : List Form) (rest : List ℕ) → length rest ≤ fuel → Rest before rest → WalkEnd space text (judged before rest)
   walk zero before [] l r = ended before r

@@ -1,5 +1,5 @@
 -- Which texts are accepted, said of the whole text at once; and what a refusal says.
-use Rattle.std.specs.Prelude.{ℕ, ◌≤◌, ◌<◌, ◌≡◌, Bool, true, false, ◌&&◌, ◌||◌, List, [], ◌∷◌, ◌++◌, length}
+use Rattle.std.specs.Prelude.{ℕ, ◌≤◌, ◌<◌, ◌≡◌, Bool, true, false, ◌&&◌, ◌||◌, List, [], ◌∷◌, ◌++◌, length, Err}
 use Rattle.wellfounded.specs.Lists.{all}
 use Rattle.tables.specs.declared.Fault.{Fault}
 use Rattle.tables.specs.declared.Fault.TheVariants.{Malformed, OutsideLimits, OutOfOrder}
@@ -9,8 +9,9 @@ use Rattle.format.specs.Views.{of_kind}
 use Rattle.judging.specs.declared.reached.Reached.{Reached}
 use Rattle.judging.specs.declared.reached.Space.{Space}
 use Rattle.judging.specs.LentTables.{Table, full_size, room_in}
-use Rattle.judging.specs.States.{open_stood, start, after, counts_within, fits}
-use Rattle.judging.specs.Judging.{numbers_within, within_limits, parts_in_order, in_order, stop, judge_form, levelled, max_bytes}
+use Rattle.judging.specs.declared.reached.Phase.TheVariants.{OpenStood}
+use Rattle.judging.specs.States.{rank, start, after, counts_within, fits}
+use Rattle.judging.specs.Judging.{numbers_within, within_limits, parts_in_order, in_order, judge_form, levelled, max_bytes}
 
 -- The state after some forms in turn.
 unfoldable pub after_all : Reached → List Form → Reached
@@ -99,7 +100,7 @@ pub record NotPassing (space : Space) (text : List ℕ) (fault : Fault) (at : �
   pub passing : PassesUpTo space before
   pub whole : text ≡ render_all before ++ (render form ++ (line_end ∷ rest))
   pub levels : levelled (after_all start before) form ≡ true
-  pub stopped : judge_form space (after_all start before) form ≡ stop fault
+  pub stopped : judge_form space (after_all start before) form ≡ Err fault
   pub position : at ≡ length (render_all before)
 
 -- All forms may pass, and the state form be missing.
@@ -108,7 +109,7 @@ pub record NoStateForm (space : Space) (text : List ℕ) (fault : Fault) (at : �
   pub forms : List Form
   pub passing : PassesUpTo space forms
   pub whole : text ≡ render_all forms
-  pub missing : (after_all start forms).phase < open_stood
+  pub missing : rank (after_all start forms).phase < rank OpenStood
   pub fault_is : fault ≡ OutOfOrder
   pub position : at ≡ length text
 

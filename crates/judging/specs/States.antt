@@ -4,50 +4,40 @@ use Rattle.tables.specs.Limits.{max_rule_rows, max_clause_rows, max_literals, ma
 use Rattle.tables.specs.Rows.{rule_width, clause_width}
 use Rattle.tables.specs.Loads.{load_width}
 use Rattle.format.specs.declared.kinds.Kind.{Kind}
-use Rattle.format.specs.declared.kinds.Kind.TheVariants.{Atoms, Rule, Clause, Load, Open, Claim, Defined, Unknown}
+use Rattle.format.specs.declared.kinds.Kind.TheVariants.{Atoms, Rule, Clause, Load, Open, Claim, Defined}
 use Rattle.format.specs.Forms.{Form}
 use Rattle.format.specs.Views.{view_of, kind_in, same_kind}
+use Rattle.judging.specs.declared.reached.Phase.{Phase}
+use Rattle.judging.specs.declared.reached.Phase.TheVariants.{NothingYet, AtomsStood, InRules, InClauses, InLoads, OpenStood, ClaimStood}
 use Rattle.judging.specs.declared.reached.Reached.{Reached}
 use Rattle.judging.specs.declared.reached.Space.{Space}
 use Rattle.judging.specs.LentTables.{Table, Rules, Literals, Clauses, Loads, LoadLiterals, Minutes, Marks, Values, Levels, every_table, room_in}
 
--- The phases of a text: nothing was read yet; the atoms form was read last; the defined form or a rule was, or a clause, or a load line; an open
--- form or a claim stood.
-abbrev pub nothing_yet : ℕ
-nothing_yet = 0
+-- The place of a phase in the order of a text: nothing was read yet; the atoms form was read last; the defined form or a rule was, or a clause, or
+-- a load line; an open form or a claim stood.
+abbrev pub rank : Phase → ℕ
+rank NothingYet = 0
+rank AtomsStood = 1
+rank InRules = 2
+rank InClauses = 3
+rank InLoads = 4
+rank OpenStood = 5
+rank ClaimStood = 6
 
-abbrev pub atoms_stood : ℕ
-atoms_stood = 1
-
-abbrev pub in_rules : ℕ
-in_rules = 2
-
-abbrev pub in_clauses : ℕ
-in_clauses = 3
-
-abbrev pub in_loads : ℕ
-in_loads = 4
-
-abbrev pub open_stood : ℕ
-open_stood = 5
-
-abbrev pub claim_stood : ℕ
-claim_stood = 6
-
--- The phase, the number of atoms, and the entries counted for each table that grows from line to line. Before the first line all are 0.
+-- The phase, the number of atoms, and the entries counted for each table that grows from line to line. Before the first line nothing was
+-- read, and all counts are 0.
 unfoldable pub start : Reached
-start = record { phase = nothing_yet; size = 0; rules = 0; literals = 0; clauses = 0; loads = 0; terms = 0 }
+start = record { phase = NothingYet; size = 0; rules = 0; literals = 0; clauses = 0; loads = 0; terms = 0 }
 
 -- The phase that a form of each kind leaves.
-unfoldable pub phase_after : Kind → ℕ
-phase_after Atoms = atoms_stood
-phase_after Rule = in_rules
-phase_after Clause = in_clauses
-phase_after Load = in_loads
-phase_after Open = open_stood
-phase_after Claim = claim_stood
-phase_after Defined = in_rules
-phase_after Unknown = nothing_yet
+unfoldable pub phase_after : Kind → Phase
+phase_after Atoms = AtomsStood
+phase_after Rule = InRules
+phase_after Clause = InClauses
+phase_after Load = InLoads
+phase_after Open = OpenStood
+phase_after Claim = ClaimStood
+phase_after Defined = InRules
 
 -- The state after a form of some kind: an atoms form tells the number of atoms, rules, clauses and load lines add a row each, and the
 -- literals and terms that a form lists are counted too.
@@ -78,10 +68,10 @@ groups_reached s = 1
 
 -- Marks and values are counted once a state form stood, one for each atom; levels once a claim did, one for each atom in each group.
 unfoldable pub values_counted : Reached → ℕ
-values_counted s = cond (leb open_stood s.phase) s.size 0
+values_counted s = cond (leb (rank OpenStood) (rank s.phase)) s.size 0
 
 unfoldable pub levels_counted : Reached → ℕ
-levels_counted s = cond (leb claim_stood s.phase) (s.size * groups_reached s) 0
+levels_counted s = cond (leb (rank ClaimStood) (rank s.phase)) (s.size * groups_reached s) 0
 
 -- The entries counted for each table; load literals and minutes both hold the terms.
 unfoldable pub count_in : Reached → Table → ℕ

@@ -13,26 +13,23 @@ use tables::sizes::{
     MAX_CLAUSE_ENTRIES, MAX_LITERALS, MAX_LOAD_ENTRIES, MAX_RULE_ENTRIES, MAX_TERMS,
 };
 
-// The phases of a text: nothing was read yet; the atoms form was read last; the defined form or rules were, or clauses, or load lines; an open form
-// or a claim stood.
-pub const NOTHING_YET: usize = 0;
-
-pub const ATOMS_STOOD: usize = 1;
-
-pub const IN_RULES: usize = 2;
-
-pub const IN_CLAUSES: usize = 3;
-
-pub const IN_LOADS: usize = 4;
-
-pub const OPEN_STOOD: usize = 5;
-
-pub const CLAIM_STOOD: usize = 6;
+// The phases of a text, in their order: nothing was read yet; the atoms form was read last; the defined form or a rule was, or a clause, or a load
+// line; an open form or a claim stood.
+#[derive(Clone, Copy, PartialEq, Eq, PartialOrd, Ord)]
+pub enum Phase {
+    NothingYet,
+    AtomsStood,
+    InRules,
+    InClauses,
+    InLoads,
+    OpenStood,
+    ClaimStood,
+}
 
 // The phase of the text, the number of atoms, and the entries counted for each table that grows from line to line.
 #[derive(Clone, Copy)]
 pub struct Reached {
-    pub phase: usize,
+    pub phase: Phase,
     pub size: usize,
     pub rules: usize,
     pub literals: usize,
@@ -66,26 +63,12 @@ pub struct Shape {
     pub rising: bool,
 }
 
-// A line judged: the state after it and the offset of the next line, or a fault.
-#[derive(Drop)]
-pub enum Move {
-    On(Reached, usize),
-    Stop(Fault),
-}
-
-// What a text comes to: the state after its last line, or a fault with its position.
-#[derive(Drop)]
-pub enum Judged {
-    Passed(Reached),
-    Failed(Fault, usize),
-}
-
 // Before the first line.
 pub fn start() -> Reached
     ensures { result ≡ start }
 {
     Reached {
-        phase: NOTHING_YET,
+        phase: Phase::NothingYet,
         size: 0,
         rules: 0,
         literals: 0,
@@ -109,7 +92,8 @@ fn levels_told(reached: Reached) -> usize
     reached.size * groups_reached(reached)
 }
 
-// The state after a form, and whether all that is counted then is within the limits of a book and has space in the lent tables.
+// The state after a form, and whether all that is counted then is within the limits of a book and has space in the lent tables. No Option of a
+// state: limits are looked at before the order of forms, and space after it.
 #[derive(Drop)]
 struct Counted {
     then: Reached,
@@ -123,7 +107,7 @@ fn count_rule(space: Space, reached: Reached, parts: usize) -> Counted
     ensures { CountedAs space (added reached Rule 0 parts) result }
 {
     let mut then = reached;
-    then.phase = IN_RULES;
+    then.phase = Phase::InRules;
     then.rules = reached.rules + RULE_WIDTH;
     then.literals = reached.literals + parts;
     Counted {
@@ -139,7 +123,7 @@ fn count_clause(space: Space, reached: Reached, parts: usize) -> Counted
     ensures { CountedAs space (added reached Clause 0 parts) result }
 {
     let mut then = reached;
-    then.phase = IN_CLAUSES;
+    then.phase = Phase::InClauses;
     then.clauses = reached.clauses + CLAUSE_WIDTH;
     then.literals = reached.literals + parts;
     Counted {
@@ -155,7 +139,7 @@ fn count_load(space: Space, reached: Reached, parts: usize) -> Counted
     ensures { CountedAs space (added reached Load 0 parts) result }
 {
     let mut then = reached;
-    then.phase = IN_LOADS;
+    then.phase = Phase::InLoads;
     then.loads = reached.loads + LOAD_WIDTH;
     then.terms = reached.terms + parts;
     Counted {
@@ -176,7 +160,7 @@ fn count(space: Space, reached: Reached, kind: Kind, size: usize, parts: usize) 
     let mut fits = true;
     match kind {
         Kind::Atoms => {
-            then.phase = ATOMS_STOOD;
+            then.phase = Phase::AtomsStood;
             then.size = size;
         }
         Kind::Rule => {
@@ -189,20 +173,17 @@ fn count(space: Space, reached: Reached, kind: Kind, size: usize, parts: usize) 
             return count_load(space, reached, parts);
         }
         Kind::Open => {
-            then.phase = OPEN_STOOD;
+            then.phase = Phase::OpenStood;
             fits = (reached.size <= space.marks) & (reached.size <= space.values);
         }
         Kind::Claim => {
-            then.phase = CLAIM_STOOD;
+            then.phase = Phase::ClaimStood;
             fits = (reached.size <= space.marks)
                 & (reached.size <= space.values)
                 & (levels_told(reached) <= space.levels);
         }
         Kind::Defined => {
-            then.phase = IN_RULES;
-        }
-        Kind::Unknown => {
-            then.phase = NOTHING_YET;
+            then.phase = Phase::InRules;
         }
     }
     Counted {
@@ -213,29 +194,28 @@ fn count(space: Space, reached: Reached, kind: Kind, size: usize, parts: usize) 
 }
 
 // Whether a phase is among those in which a kind of form may follow.
-fn between(first: usize, last: usize, phase: usize) -> bool
+fn between(first: Phase, last: Phase, phase: Phase) -> bool
     ensures { result ≡ between first last phase }
 {
     (first <= phase) & (phase <= last)
 }
 
 // Whether a form of some kind may follow in a phase.
-fn may_follow(kind: Kind, phase: usize) -> bool
+fn may_follow(kind: Kind, phase: Phase) -> bool
     ensures { result ≡ may_follow kind phase }
 {
     match kind {
-        Kind::Atoms => phase == NOTHING_YET,
-        Kind::Rule => between(ATOMS_STOOD, IN_RULES, phase),
-        Kind::Clause => between(ATOMS_STOOD, IN_CLAUSES, phase),
-        Kind::Load => between(ATOMS_STOOD, IN_LOADS, phase),
-        Kind::Open => between(ATOMS_STOOD, IN_LOADS, phase),
-        Kind::Claim => between(ATOMS_STOOD, IN_LOADS, phase),
-        Kind::Defined => phase == ATOMS_STOOD,
-        Kind::Unknown => false,
+        Kind::Atoms => phase == Phase::NothingYet,
+        Kind::Rule => between(Phase::AtomsStood, Phase::InRules, phase),
+        Kind::Clause => between(Phase::AtomsStood, Phase::InClauses, phase),
+        Kind::Load => between(Phase::AtomsStood, Phase::InLoads, phase),
+        Kind::Open => between(Phase::AtomsStood, Phase::InLoads, phase),
+        Kind::Claim => between(Phase::AtomsStood, Phase::InLoads, phase),
+        Kind::Defined => phase == Phase::AtomsStood,
     }
 }
 
-// Whether a form's parts are in order: named atoms rise, and there is a claim pair for each atom.
+// Whether a form's parts are in order: named atoms rise, and there is a claim pair for each atom. Kinds are told apart by a match, as everywhere.
 fn parts_in_order(reached: Reached, kind: Kind, parts: usize, rising: bool) -> bool
     ensures { result ≡ order_of reached kind parts rising }
 {
@@ -245,24 +225,30 @@ fn parts_in_order(reached: Reached, kind: Kind, parts: usize, rising: bool) -> b
     }
 }
 
-// A form judged in the state reached so far: its limits first, then its order, then the space of the lent tables.
-pub fn judge_shape(space: Space, reached: Reached, shape: Shape, next: usize) -> Move
+// A form judged in the state reached so far: its limits first, then its order, then the space of the lent tables. It comes to the state after it
+// with the offset of the next line, or to a fault.
+pub fn judge_shape(
+    space: Space,
+    reached: Reached,
+    shape: Shape,
+    next: usize,
+) -> Result<(Reached, usize), Fault>
     requires { CountsFit space reached × (shape.parts ≤ max_bytes) }
     ensures { result ≡ as_move next (judge_shape space reached shape) }
 {
     let kind = shape.kind;
     let counts = count(space, reached, kind, shape.size, shape.parts);
     if !(shape.within & counts.within) {
-        return Move::Stop(Fault::OutsideLimits);
+        return Err(Fault::OutsideLimits);
     }
     if !(may_follow(kind, reached.phase)
         & parts_in_order(reached, kind, shape.parts, shape.rising))
     {
-        return Move::Stop(Fault::OutOfOrder);
+        return Err(Fault::OutOfOrder);
     }
     if !counts.fits {
-        return Move::Stop(Fault::NoSpace);
+        return Err(Fault::NoSpace);
     }
     let then = counts.then;
-    Move::On(then, next)
+    Ok((then, next))
 }

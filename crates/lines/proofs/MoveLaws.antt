@@ -7,7 +7,9 @@ use mathlib.Core.List.{List, [], ◌∷◌, ◌++◌}
 use native.Mathlib.Omega.{arith}
 use lib.ListN.{length, drop, length-append, length-drop}
 use lib.Seq.{drop-drop, drop-append_seam}
+use Rattle.std.specs.Prelude.{Option, Some, Result, Ok, Err, is_ok}
 use Rattle.wellfounded.proofs.Tests.{first}
+use Rattle.tables.specs.declared.Fault.{Fault}
 use Rattle.tables.specs.declared.Fault.TheVariants.{Malformed}
 use Rattle.format.specs.Forms.{Form, line_end, render}
 use Rattle.format.specs.Parse.{Reading, got, refused, and_then, skip, read_form, read_line}
@@ -18,20 +20,18 @@ use Rattle.items.proofs.ItemLaws.{byte_got, byte_none}
 use Rattle.judging.specs.declared.reached.Reached.{Reached}
 use Rattle.judging.specs.declared.reached.Space.{Space}
 use Rattle.judging.specs.declared.reached.Shape.{Shape}
-use Rattle.judging.specs.declared.reached.Move.{Move}
-use Rattle.judging.specs.declared.reached.Move.TheVariants.{Stop}
 use Rattle.judging.specs.States.{fits}
-use Rattle.judging.specs.Judging.{max_bytes, numbers_within, within_limits, Step, on, stop, judge_form, levelled, if_levelled}
+use Rattle.judging.specs.Judging.{max_bytes, numbers_within, within_limits, judge_form, levelled, if_levelled}
 use Rattle.judging.specs.internal.Shapes.{shape_of, judge_shape, as_move}
 use Rattle.judging.proofs.ShapeLaws.{shape_judged, parts_few}
 use Rattle.judging.proofs.StateLaws.{judge_on}
 use Rattle.judging.proofs.LineLaws.{levelled_got}
-use Rattle.forms.specs.declared.Line.{Line}
-use Rattle.forms.specs.declared.Line.TheVariants.{Formed}
 use Rattle.forms.specs.Contents.{Contents}
-use Rattle.forms.specs.internal.Readers.{formed, WellPlaced, Forms}
+use Rattle.numerals.specs.internal.Offsets.{answered}
+use Rattle.numerals.proofs.OffsetLaws.{answer_some}
+use Rattle.forms.specs.internal.Readers.{WellPlaced, Forms}
 use Rattle.forms.proofs.DispatchLaws.{Stored}
-use Rattle.lines.specs.internal.Walks.{Ready, Judgeable, line_move, move_of, goes_on, Moves}
+use Rattle.lines.specs.internal.Walks.{Ready, Judgeable, line_move, move_of, Moves}
 
 -- What is left after some bytes at an offset begins at the next one.
 pub rest_at :
@@ -43,12 +43,12 @@ rest_at text bytes rest {at} l e =
     (next, rw (next, ← drop-drop (length bytes) at text, e) (drop-append_seam bytes rest))
 
 -- A form that goes on is fine.
-goes_on_lem : (n : ℕ) (m : Step) → goes_on (as_move n m) ≡ true → (t : Reached) × (m ≡ on t)
-unfolding goes_on as_move
-goes_on_lem n (on t) e = (t, refl)
-goes_on_lem n (stop fault) e = absurd (false≢true e)
+goes_on_lem : (n : ℕ) (m : Result Reached Fault) → is_ok (as_move n m) ≡ true → (t : Reached) × (m ≡ Ok t)
+unfolding as_move
+goes_on_lem n (Ok t) e = (t, refl)
+goes_on_lem n (Err fault) e = absurd (false≢true e)
 
-judged_fine : (space : Space) (s : Reached) (f : Form) (n : ℕ) → goes_on (as_move n (judge_form space s f)) ≡ true → WellPlaced s f
+judged_fine : (space : Space) (s : Reached) (f : Form) (n : ℕ) → is_ok (as_move n (judge_form space s f)) ≡ true → WellPlaced s f
 unfolding within_limits
 judged_fine space s f n g =
     let t = goes_on_lem n (judge_form space s f) g in
@@ -85,7 +85,7 @@ line_levelled s bytes = step (read_form bytes)
     step refused = refl
 
 -- A form was read at an offset.
-module _ {s : Reached} {text : List ℕ} {at : ℕ} {line : Line} {written : Form → Type 0} (ready : Ready text at s)
+module _ {s : Reached} {text : List ℕ} {at : ℕ} {line : Option (Shape × ℕ)} {written : Form → Type 0} (ready : Ready text at s)
     (read : Forms s text (if_levelled s (read_form (drop at text))) line written) where
   written_there : {f : Form} {rest : List ℕ} → if_levelled s (read_form (drop at text)) ≡ got f rest → drop at text ≡ render f ++ rest
   written_there {f} {rest} e =
@@ -93,29 +93,22 @@ module _ {s : Reached} {text : List ℕ} {at : ℕ} {line : Line} {written : For
 
   -- So that it may be judged.
   pub judgeable : {space : Space} → fits space s ≡ true → Judgeable space s line
-  unfolding formed shape_of
-  judgeable fitting =
-      record {
-        fitted = record { limits = ready.counts; fitting = fitting };
-        few = λ shape next e. step shape next (if_levelled s (read_form (drop at text))) refl (sym read.answered ∙ e);
-      }
+  unfolding shape_of
+  judgeable fitting = record { fitted = record { limits = ready.counts; fitting = fitting }; few = few }
     where
-      step :
-          (shape : Shape) (next : ℕ) (r : Reading Form) → if_levelled s (read_form (drop at text)) ≡ r → formed s text r ≡ Formed shape next →
-          shape.parts ≤ max_bytes
-      step shape next (got f rest) d t =
-          let same : shape ≡ shape_of s f = cc in
-          let whole : length text - at ≡ length (render f) + length rest =
-          sym (length-drop at text) ∙ (ap length (written_there d) ∙ length-append (render f) rest) in
-          rw same (omega (arith, parts_few f, ready.inside.short))
-      step shape next refused d t = let z : ◌≡◌ {A = ℕ} 0 1 = cc in absurd (omega arith)
+      few : (shape : Shape) (next : ℕ) → line ≡ Some (shape, next) → shape.parts ≤ max_bytes
+      few shape next e =
+          let g = answer_some (shape_of s) text (if_levelled s (read_form (drop at text))) (sym read.answered ∙ e) in
+          let whole : length text - at ≡ length (render g.0) + length g.1 =
+          sym (length-drop at text) ∙ (ap length (written_there g.2) ∙ length-append (render g.0) g.1) in
+          rw g.3 (omega (arith, parts_few g.0, ready.inside.short))
 
 -- The line that was read comes to what its form comes to.
 module _ (space : Space) {s : Reached} {text : List ℕ} {at : ℕ} (ready : Ready text at s) {before afterwards : Contents} where
   ended :
       (f : Form) (next : ℕ) (b : Bool) → if_levelled s (read_form (drop at text)) ≡ got f (drop next text) → word_at text next (line_end ∷ []) ≡ b →
       (WellPlaced s f → Stored s before afterwards f) →
-      Moves space s text (if_levelled s (read_line (drop at text))) (cond b (as_move (next + 1) (judge_shape space s (shape_of s f))) (Stop Malformed)) before
+      Moves space s text (if_levelled s (read_line (drop at text))) (cond b (as_move (next + 1) (judge_shape space s (shape_of s f))) (Err Malformed)) before
       afterwards
   unfolding and_then move_of
   ended f next true d w laid =
@@ -124,15 +117,15 @@ module _ (space : Space) {s : Reached} {text : List ℕ} {at : ℕ} (ready : Rea
       rw (line_levelled s (drop at text), d, g.0, shape_judged space s f ready.atoms) record { answered = rw end; laid = λ on. laid (judged_fine space s f (next + 1) on) }
   ended f next false d w laid = rw (line_levelled s (drop at text), d, byte_none text next line_end w) record { answered = refl; laid = tt }
 
-  unread : if_levelled s (read_form (drop at text)) ≡ refused → Moves space s text (if_levelled s (read_line (drop at text))) (Stop Malformed) before afterwards
+  unread : if_levelled s (read_form (drop at text)) ≡ refused → Moves space s text (if_levelled s (read_line (drop at text))) (Err Malformed) before afterwards
   unfolding and_then move_of
   unread d = rw (line_levelled s (drop at text), d) record { answered = refl; laid = tt }
 
   pub line_moves :
-      {line : Line} {answer : Move} → Forms s text (if_levelled s (read_form (drop at text))) line (Stored s before afterwards) →
+      {line : Option (Shape × ℕ)} {answer : Result (Reached × ℕ) Fault} → Forms s text (if_levelled s (read_form (drop at text))) line (Stored s before afterwards) →
       answer ≡ line_move space s text line →
       Moves space s text (if_levelled s (read_line (drop at text))) answer before afterwards
-  unfolding formed line_move
+  unfolding answered line_move
   line_moves {line} {answer} read a = step (if_levelled s (read_form (drop at text))) refl read
     where
       step :

@@ -1,26 +1,24 @@
 -- Laws of the walk over a text: what holds at each line that it comes to, and what it answers where it ends.
 -- Assumes nothing.
 use Prim.Native.Nat.{ℕ, suc, ◌+◌, ◌-◌, ◌≤◌, ◌<◌}
-use mathlib.Core.Path.{◌≡◌, refl, sym, ◌∙◌}
+use mathlib.Core.Path.{◌≡◌, refl, sym, ap, ◌∙◌}
 use mathlib.Core.Bool.{true, false≢true}
 use mathlib.Core.List.{List, [], ◌∷◌, ◌++◌, append_assoc}
 use native.Mathlib.Omega.{arith}
 use lib.ListN.{length, drop, length-append, drop_of_length-le}
 use lib.Seq.{drop-cons, length-sets}
 use borrow.Author.Tests.{le-leb, lt-leb}
+use Rattle.std.specs.Prelude.{Result, Ok, Err}
 use Rattle.tables.specs.declared.Fault.{Fault}
 use Rattle.tables.specs.declared.Fault.TheVariants.{Malformed, OutsideLimits}
 use Rattle.format.specs.Forms.{Form, line_end, render}
 use Rattle.format.specs.Parse.{Reading, got, refused, read_line}
+use Rattle.tables.specs.declared.Refusal.{Refusal}
 use Rattle.judging.specs.declared.reached.Reached.{Reached}
 use Rattle.judging.specs.declared.reached.Space.{Space}
-use Rattle.judging.specs.declared.reached.Move.{Move}
-use Rattle.judging.specs.declared.reached.Move.TheVariants.{On, Stop}
-use Rattle.judging.specs.declared.reached.Judged.{Judged}
-use Rattle.judging.specs.declared.reached.Judged.TheVariants.{Failed}
 use Rattle.judging.specs.LentTables.{Table}
 use Rattle.judging.specs.States.{start, after, fits}
-use Rattle.judging.specs.Judging.{lines, Step, on, stop, judge_form, levelled, if_levelled, continued, judge_lines, judge_text, max_bytes, forms_from, forms_of}
+use Rattle.judging.specs.Judging.{failed, lines, judge_form, levelled, if_levelled, continued, judge_lines, judge_text, max_bytes, forms_from, forms_of}
 use Rattle.judging.specs.internal.Shapes.{as_move}
 use Rattle.judging.proofs.LineLaws.{levelled_got, line_formed, judge_line_lem, judge_refused, forms_line}
 use Rattle.judging.proofs.Counts.{start_fits}
@@ -28,7 +26,7 @@ use Rattle.judging.proofs.StateLaws.{start_limits, after_counts, after_size, jud
 use Rattle.forms.specs.Contents.{Contents}
 use Rattle.forms.specs.Entries.{entries_of}
 use Rattle.forms.specs.internal.Stores.{store, store_forms}
-use Rattle.lines.specs.internal.Walks.{move_of, Ready, goes_on, Moves, ended_at, is_passed, Walked}
+use Rattle.lines.specs.internal.Walks.{move_of, Ready, Moves, ended_at, Walked}
 use Rattle.lines.proofs.MoveLaws.{rest_at}
 
 -- The walk has come to an offset in some state: what was counted has space, judging the rest from there is judging the text, and storing the
@@ -42,8 +40,8 @@ pub record Underway (text : List ℕ) (space : Space) (before : Contents) (s : R
 
 -- A text that is too long is refused, whatever stands in the tables.
 pub walk_long :
-    (text : List ℕ) (space : Space) (before : Contents) → max_bytes < length text → Walked text space before (Failed OutsideLimits 0) before
-unfolding judge_text is_passed
+    (text : List ℕ) (space : Space) (before : Contents) → max_bytes < length text → Walked text space before (failed OutsideLimits 0) before
+unfolding judge_text
 walk_long text space before l =
     record { answered = rw (lt-leb (length text) max_bytes l); laid = λ p. absurd (false≢true p) }
 
@@ -62,15 +60,17 @@ walk_start text space before s l e =
     }
 
 -- A line goes on to the offset after it.
-as_move_on : (n : ℕ) (m : Step) {t : Reached} {next : ℕ} → as_move n m ≡ On t next → (m ≡ on t) × (next ≡ n)
+as_move_on : (n : ℕ) (m : Result Reached Fault) {t : Reached} {next : ℕ} → as_move n m ≡ Ok (t, next) → (m ≡ Ok t) × (next ≡ n)
 unfolding as_move
-as_move_on n (on s) e = ((cc), (cc))
-as_move_on n (stop fault) e = let z : ◌≡◌ {A = ℕ} 0 1 = cc in absurd (omega arith)
+as_move_on n (Ok s) {t} {next} e =
+    let same : ◌≡◌ {A = Reached × ℕ} (s, n) (t, next) = cc in
+    (ap (λ (p : Reached × ℕ). Ok p.0) same, sym (ap (λ (p : Reached × ℕ). p.1) same))
+as_move_on n (Err fault) e = let z : ◌≡◌ {A = ℕ} 0 1 = cc in absurd (omega arith)
 
-as_move_stop : (n : ℕ) (m : Step) {fault : Fault} → as_move n m ≡ Stop fault → m ≡ stop fault
+as_move_stop : (n : ℕ) (m : Result Reached Fault) {fault : Fault} → as_move n m ≡ Err fault → m ≡ Err fault
 unfolding as_move
-as_move_stop n (on s) e = let z : ◌≡◌ {A = ℕ} 0 1 = cc in absurd (omega arith)
-as_move_stop n (stop fault) e = cc
+as_move_stop n (Ok s) e = let z : ◌≡◌ {A = ℕ} 0 1 = cc in absurd (omega arith)
+as_move_stop n (Err fault) e = cc
 
 module _ {text : List ℕ} {space : Space} {before : Contents} {s : Reached} {at : ℕ} {now : Contents} (w : Underway text space before s at now) where
   -- The line of a levelled form stands at the offset, and the form passes.
@@ -82,7 +82,7 @@ module _ {text : List ℕ} {space : Space} {before : Contents} {s : Reached} {at
         (rw one at k.0, k.1)
 
     judged_on :
-        {t : Reached} → judge_form space s f ≡ on t →
+        {t : Reached} → judge_form space s f ≡ Ok t →
         judge_lines space s at (lines (drop at text)) ≡ judge_lines space t (at + suc (length (render f))) (lines rest)
     unfolding continued
     judged_on e = rw (here, judge_line_lem space s at f rest levels, e)
@@ -98,7 +98,7 @@ module _ {text : List ℕ} {space : Space} {before : Contents} {s : Reached} {at
     stored_lengths table = length-sets (now table) _ (entries_of s f table) ∙ w.lengths table
 
     went :
-        {t : Reached} {next : ℕ} {later : Contents} → judge_form space s f ≡ on t → next ≡ length text - length rest →
+        {t : Reached} {next : ℕ} {later : Contents} → judge_form space s f ≡ Ok t → next ≡ length text - length rest →
         later ≡ store s (entries_of s f) now → Underway text space before t next later × (at < next)
     went {t} {next} {later} e n d =
         let k = judge_on space s f t e in
@@ -120,9 +120,9 @@ module _ {text : List ℕ} {space : Space} {before : Contents} {s : Reached} {at
 
   -- A line that goes on.
   pub walk_on :
-      {answer : Move} {t : Reached} {next : ℕ} {later : Contents} → Moves space s text (if_levelled s (read_line (drop at text))) answer now later →
-      answer ≡ On t next → Underway text space before t next later × (at < next)
-  unfolding move_of goes_on
+      {answer : Result (Reached × ℕ) Fault} {t : Reached} {next : ℕ} {later : Contents} →
+      Moves space s text (if_levelled s (read_line (drop at text))) answer now later → answer ≡ Ok (t, next) → Underway text space before t next later × (at < next)
+  unfolding move_of
   walk_on {answer} {t} {next} {later} m e = step (if_levelled s (read_line (drop at text))) refl m
     where
       step :
@@ -136,26 +136,26 @@ module _ {text : List ℕ} {space : Space} {before : Contents} {s : Reached} {at
 
   -- A line that is refused.
   pub walk_stop :
-      {answer : Move} {fault : Fault} {later : Contents} → at < length text →
+      {answer : Result (Reached × ℕ) Fault} {fault : Fault} {later : Contents} → at < length text →
       Moves space s text (if_levelled s (read_line (drop at text))) answer now later →
-      answer ≡ Stop fault → Walked text space before (Failed fault at) later
-  unfolding move_of continued is_passed
+      answer ≡ Err fault → Walked text space before (failed fault at) later
+  unfolding move_of continued
   walk_stop {answer} {fault} {later} l m e =
       record { answered = step (if_levelled s (read_line (drop at text))) refl (sym m.answered ∙ e) ∙ w.judged; laid = λ p. absurd (false≢true p) }
     where
       step :
-          (r : Reading Form) → if_levelled s (read_line (drop at text)) ≡ r → move_of space s text r ≡ Stop fault →
-          Failed fault at ≡ judge_lines space s at (lines (drop at text))
+          (r : Reading Form) → if_levelled s (read_line (drop at text)) ≡ r → move_of space s text r ≡ Err fault →
+          failed fault at ≡ judge_lines space s at (lines (drop at text))
       step (got f rest) read a =
           let line = levelled_got s (read_line (drop at text)) f rest read in
           rw (line_formed (drop at text) f rest line.0, judge_line_lem space s at f rest line.1, as_move_stop _ (judge_form space s f) a)
       step refused read a =
           let some = drop-cons text at 0 l in
-          let told : Failed fault at ≡ Failed Malformed at = cc in
+          let told : failed fault at ≡ failed Malformed at = cc in
           told ∙ rw some (sym (judge_refused space s at _ _ (rw some at read)))
 
   -- After the last line.
-  pub walk_ended : length text ≤ at → (answer : Judged) → answer ≡ ended_at s at → Walked text space before answer now
+  pub walk_ended : length text ≤ at → (answer : Result Reached Refusal) → answer ≡ ended_at s at → Walked text space before answer now
   unfolding ended_at judge_lines lines forms_from store_forms
   walk_ended l answer e =
       let none : drop at text ≡ [] = drop_of_length-le text l in

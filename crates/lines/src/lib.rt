@@ -7,20 +7,23 @@ ghost use Rattle.forms.specs.Contents.{lent_tables};
 ghost use Rattle.lines.specs.internal.Walks.{ended_at, Walked};
 
 use crate::line::{judge_line, read_form};
-use judging::reached::{Judged, Move, OPEN_STOOD, Reached, Space, start};
-use tables::Fault;
+use judging::reached::{Phase, Reached, Space, start};
 use tables::sizes::MAX_BYTES;
+use tables::{Fault, Refusal};
 
 mod line;
 
 // After the last line the state form may be missing.
-fn ended(reached: Reached, at: usize) -> Judged
+fn ended(reached: Reached, at: usize) -> Result<Reached, Refusal>
     ensures { result ≡ ended_at reached at }
 {
-    if reached.phase < OPEN_STOOD {
-        return Judged::Failed(Fault::OutOfOrder, at);
+    if reached.phase < Phase::OpenStood {
+        return Err(Refusal {
+            fault: Fault::OutOfOrder,
+            position: at,
+        });
     }
-    Judged::Passed(reached)
+    Ok(reached)
 }
 
 // The lines in turn, until one is refused.
@@ -36,7 +39,7 @@ pub fn walk(
     marks: &mut [u8],
     values: &mut [u8],
     levels: &mut [u16],
-) -> Judged
+) -> Result<Reached, Refusal>
     ensures { Walked text.now space
         (lent_tables rules.old literals.old clauses.old loads.old load_literals.old
         minutes.old marks.old values.old levels.old) result
@@ -44,7 +47,10 @@ pub fn walk(
         minutes.new marks.new values.new levels.new) }
 {
     if MAX_BYTES < text.len() {
-        return Judged::Failed(Fault::OutsideLimits, 0);
+        return Err(Refusal {
+            fault: Fault::OutsideLimits,
+            position: 0,
+        });
     }
     let mut reached = start();
     let mut at = 0;
@@ -63,21 +69,19 @@ pub fn walk(
             values,
             levels,
         );
-        match judge_line(text, line, space, reached) {
-            Move::On(then, next) => {
-                reached = then;
-                at = next;
-            }
-            Move::Stop(fault) => {
-                return Judged::Failed(fault, at);
-            }
-        }
+        let moved = judge_line(text, line, space, reached);
+        let (then, next) = moved.map_err(|fault| Refusal {
+            fault,
+            position: at,
+        })?;
+        reached = then;
+        at = next;
     }
     ended(reached, at)
 }
 
 // The judgement alone: tables with no entries are lent, so that nothing is written.
-pub fn judge(text: &[u8], space: Space) -> Judged
+pub fn judge(text: &[u8], space: Space) -> Result<Reached, Refusal>
     ensures { result ≡ judge_text space text.now }
 {
     let mut rules = [0u16; 0];

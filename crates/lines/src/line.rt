@@ -11,10 +11,10 @@ ghost use Rattle.lines.specs.internal.Walks.{Ready, Judgeable, line_move};
 use format::kinds::{Kind, kind_at};
 use format::words::byte_at;
 use forms::{
-    Line, read_atoms_form, read_claim_form, read_clause_form, read_defined_form, read_load_form,
+    read_atoms_form, read_claim_form, read_clause_form, read_defined_form, read_load_form,
     read_open_form, read_rule_form,
 };
-use judging::reached::{Move, Reached, Space, judge_shape};
+use judging::reached::{Reached, Shape, Space, judge_shape};
 use tables::Fault;
 
 // The form at an offset: its word tells the kind.
@@ -31,7 +31,7 @@ pub fn read_form(
     marks: &mut [u8],
     values: &mut [u8],
     levels: &mut [u16],
-) -> Line
+) -> Option<(Shape, usize)>
     requires { Ready text.now at reached }
     ensures { Forms reached text.now (if_levelled reached (read_form (drop at text.now))) result
         (λ f. lent_tables rules.new literals.new clauses.new loads.new load_literals.new
@@ -40,7 +40,8 @@ pub fn read_form(
         (lent_tables rules.old literals.old clauses.old loads.old load_literals.old
         minutes.old marks.old values.old levels.old)) }
 {
-    match kind_at(text, at) {
+    let kind = kind_at(text, at)?;
+    match kind {
         Kind::Atoms => read_atoms_form(text, at + 6, reached, marks),
         Kind::Rule => read_rule_form(text, at + 5, reached, rules, literals),
         Kind::Clause => read_clause_form(text, at + 7, reached, clauses, literals),
@@ -48,20 +49,22 @@ pub fn read_form(
         Kind::Open => read_open_form(text, at + 5, reached, values),
         Kind::Claim => read_claim_form(text, at + 6, reached, values, levels),
         Kind::Defined => read_defined_form(text, at + 8, reached, marks),
-        Kind::Unknown => Line::NoForm,
     }
 }
 
 // What a line comes to in the state reached so far: its form with the byte that ends it, judged.
-pub fn judge_line(text: &[u8], line: Line, space: Space, reached: Reached) -> Move
+pub fn judge_line(
+    text: &[u8],
+    line: Option<(Shape, usize)>,
+    space: Space,
+    reached: Reached,
+) -> Result<(Reached, usize), Fault>
     requires { Judgeable space reached line }
     ensures { result ≡ line_move space reached text.now line }
 {
-    let Line::Formed(shape, next) = line else {
-        return Move::Stop(Fault::Malformed);
-    };
+    let (shape, next) = line.ok_or(Fault::Malformed)?;
     if !byte_at(text, next, b'\n') {
-        return Move::Stop(Fault::Malformed);
+        return Err(Fault::Malformed);
     }
     judge_shape(space, reached, shape, next + 1)
 }

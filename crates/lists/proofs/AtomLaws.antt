@@ -1,22 +1,22 @@
 -- Lists of atoms that a form names: the atoms that the code's loop marks as it reads them.
 -- Assumes nothing.
 use Prim.Native.Nat.{ℕ, suc, ◌+◌, ◌≤◌, ◌<◌}
-use mathlib.Core.Path.{◌≡◌, refl, sym, ap, ◌∙◌}
+use mathlib.Core.Path.{◌≡◌, refl, sym, ◌∙◌}
 use mathlib.Core.Bool.{Bool, true, ◌&&◌, and-true, and_assoc}
 use mathlib.Core.List.{List, [], ◌∷◌, ◌++◌, map, map-append}
 use native.Mathlib.Numerals.{add-one}
 use native.Mathlib.Omega.{arith}
 use lib.Dec.{leb, ltb}
-use lib.ListN.{length, set, length-append, length-set}
+use lib.ListN.{length, set, length-append}
 use borrow.Author.Tests.{ltb-true, lt-ltb}
 use Rattle.tables.specs.Limits.{max_atoms, max_value}
+use Rattle.std.specs.Prelude.{Some}
 use Rattle.wellfounded.specs.Lists.{all}
 use Rattle.wellfounded.proofs.Tests.{first, second}
 use Rattle.format.specs.Forms.{decimal, space}
 use Rattle.format.specs.Words.{word_at}
 use Rattle.format.specs.Parse.{read_number}
 use Rattle.numerals.specs.internal.Offsets.{beyond_limits, capped, number_at}
-use Rattle.numerals.specs.declared.numbers.Number.TheVariants.{Read}
 use Rattle.numerals.proofs.CappedLaws.{capped_small, capped_below}
 use Rattle.numerals.proofs.SignedLaws.{number_limit}
 use Rattle.format.proofs.Pieces.{number_inverse}
@@ -62,7 +62,6 @@ Atoms text at bound before next count fine rise values =
 pub record Marking (text : List ℕ) (at bound : ℕ) (before : List ℕ) (next count : ℕ) (fine rise : Bool) (floor : ℕ) (values : List ℕ) : Type 0 where
   pub listing : Atoms text at bound before next count fine rise values
   pub least : floor ≡ floor_after 0 (map capped listing.xs)
-  pub long : length values ≡ length before
 
 module _ {text : List ℕ} {at bound : ℕ} {before : List ℕ} where
   pub marking_start : at ≤ length text → Marking text at bound before at 0 true true 0 before
@@ -71,7 +70,6 @@ module _ {text : List ℕ} {at bound : ℕ} {before : List ℕ} where
       record {
         listing = record { xs = []; came = came_start l; counted = refl; tested = refl; rises = refl; laid = λ t. refl };
         least = refl;
-        long = refl;
       }
 
   module _ {next count : ℕ} {fine rise : Bool} {floor : ℕ} {values : List ℕ} (m : Marking text at bound before next count fine rise floor values) where
@@ -100,12 +98,11 @@ module _ {text : List ℕ} {at bound : ℕ} {before : List ℕ} where
                     rw (put, is, capped_small n (omega arith), marked_snoc atoms before n, m.listing.laid (first _ (ltb n bound) u));
               };
           least = rw (map-append capped atoms (n ∷ []), floor_snoc 0 (map capped atoms) (capped n), add-one, is);
-          long = ap length put ∙ length-set values atom 1 ∙ m.long;
         }
 
     pub marking_turn :
         {after atom : ℕ} {then : List ℕ} → bound ≤ max_atoms → word_at text next (space ∷ []) ≡ true →
-        number_at text (next + 1) ≡ Read atom after →
+        number_at text (next + 1) ≡ Some (atom, after) →
         then ≡ stored (ltb 1 (suc max_value)) values atom 1 →
         Marking text at bound before after (count + 1) (fine && ltb atom bound) (rise && leb floor atom) (atom + 1) then
     marking_turn {after} {atom} l h e s =
@@ -114,7 +111,7 @@ module _ {text : List ℕ} {at bound : ℕ} {before : List ℕ} where
 
 -- The value that code has of an atom is small, and the offset after it lies on in the text.
 pub atom_room :
-    (text : List ℕ) {next atom after : ℕ} → word_at text next (space ∷ []) ≡ true → number_at text (next + 1) ≡ Read atom after →
+    (text : List ℕ) {next atom after : ℕ} → word_at text next (space ∷ []) ≡ true → number_at text (next + 1) ≡ Some (atom, after) →
     (atom ≤ beyond_limits) × (next < after) × (after ≤ length text)
 atom_room text {next} h e =
     let number = number_got {at = next + 1} (omega (arith, (byte_got text next space h).1)) e in

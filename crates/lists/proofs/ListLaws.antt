@@ -10,12 +10,13 @@ use lib.ListN.{length, drop, set, length-append, length-map}
 use lib.Seq.{sets}
 use borrow.Author.Tests.{ltb-true, lt-ltb}
 use Rattle.tables.specs.Limits.{max_atoms}
+use Rattle.std.specs.Prelude.{Option, None, Some}
 use Rattle.wellfounded.specs.Lists.{all}
 use Rattle.wellfounded.proofs.Tests.{first, second, same_test}
 use Rattle.format.specs.Forms.{LiteralText, space, closing}
 use Rattle.format.specs.Words.{word_at}
 use Rattle.format.specs.Parse.{Reading, refused, parts}
-use Rattle.numerals.specs.internal.Offsets.{capped}
+use Rattle.numerals.specs.internal.Offsets.{capped, answered}
 use Rattle.items.specs.Items.{code_of, literal_code}
 use Rattle.items.specs.internal.Places.{capped_code}
 use Rattle.numerals.proofs.CappedLaws.{capped_small, capped_below}
@@ -24,8 +25,7 @@ use Rattle.items.proofs.ItemLaws.{GotAt, byte_got}
 use Rattle.items.proofs.ItemChains.{offset_left}
 use Rattle.judging.specs.Judging.{literal_within}
 use Rattle.lists.specs.declared.Parts.{Parts}
-use Rattle.lists.specs.declared.Parts.TheVariants.{Listed, NoList}
-use Rattle.lists.specs.internal.Lists.{stored, listed, Lists}
+use Rattle.lists.specs.internal.Lists.{stored, parts_of, Lists}
 use Rattle.lists.proofs.StoreLaws.{stored_small, sets_behind}
 use Rattle.items.proofs.PartLaws.{Came, all_snoc, came_start, came_turn, came_refused, came_unclosed, came_end}
 
@@ -77,24 +77,25 @@ module _ {A : Type 0} (bytes : A → List ℕ) (item : List ℕ → Reading A) (
       }
 
   none :
-      (answer : Parts) → NoList ≡ answer → parts item (drop at text) ≡ refused →
+      (answer : Option (Parts × ℕ)) → None ≡ answer → parts item (drop at text) ≡ refused →
       Lists text within ordered (parts item (drop at text)) answer W
-  unfolding listed
+  unfolding answered
   none answer a e = record { answered = rw e (sym a); laid = rw e tt }
 
   pub listing_refused :
-      word_at text next (space ∷ []) ≡ true → item (drop (next + 1) text) ≡ refused →
-      Lists text within ordered (parts item (drop at text)) NoList W
-  listing_refused h e = none NoList refl (came_refused bytes item inverse listing.came h e)
+      {answer : Option (Parts × ℕ)} → answer ≡ None → word_at text next (space ∷ []) ≡ true → item (drop (next + 1) text) ≡ refused →
+      Lists text within ordered (parts item (drop at text)) answer W
+  listing_refused a h e = none _ (sym a) (came_refused bytes item inverse listing.came h e)
 
   pub listing_unclosed :
       word_at text next (space ∷ []) ≡ false → word_at text next (closing ∷ []) ≡ false →
-      Lists text within ordered (parts item (drop at text)) NoList W
-  listing_unclosed s c = none NoList refl (came_unclosed bytes item inverse listing.came s c)
+      Lists text within ordered (parts item (drop at text)) None W
+  listing_unclosed s c = none None refl (came_unclosed bytes item inverse listing.came s c)
 
   pub listing_end :
-      word_at text next (closing ∷ []) ≡ true → Lists text within ordered (parts item (drop at text)) (Listed count fine rise (next + 1)) W
-  unfolding listed
+      word_at text next (closing ∷ []) ≡ true →
+      Lists text within ordered (parts item (drop at text)) (Some (record { count = count; within = fine; ordered = rise }, next + 1)) W
+  unfolding answered parts_of
   listing_end c =
       let e = came_end bytes item inverse listing.came c in
       let l = (byte_got text next closing c).1 in

@@ -1,23 +1,22 @@
 -- Laws of entries that are stored in lent tables, each where it has a place and fits the table's numbers.
 -- Assumes nothing.
-use Prim.Native.Nat.{ℕ, suc, ◌+◌, ◌-◌, ◌≤◌, ◌<◌}
+use Prim.Native.Nat.{ℕ, zero, suc, min, ◌+◌, ◌≤◌, ◌<◌}
 use mathlib.Core.Path.{◌≡◌, refl, sym, ap, ◌∙◌}
-use mathlib.Core.Logic.{⊎_elim}
 use mathlib.Core.Bool.{Bool, true, false}
 use mathlib.Core.List.{List, [], ◌∷◌, ◌++◌}
 use native.Mathlib.Numerals.{add-one}
 use native.Mathlib.Omega.{arith}
 use lib.Dec.{ltb, leb}
 use lib.IntN.{ℤ, pos, negsuc, nat_abs}
-use lib.ListN.{length, set, replicate}
-use lib.Seq.{set_out, sets, length-sets}
+use lib.ListN.{length, set, take, drop, replicate}
+use Rattle.std.proofs.lemmas.List.{length-take-le}
+use lib.Seq.{set_out, sets}
 use mir.Syntax.{w16, w32}
 use mir.Val.{SFits, to_z, of_z}
 use mir.Facts.{to_z-of_z, to_z_pos}
 use borrow.Author.Tests.{lt-ltb, leb-true}
-use Rattle.wellfounded.proofs.Lists.{le_or_lt}
 use Rattle.tables.specs.Limits.{max_minutes}
-use Rattle.lists.specs.internal.Lists.{stored, FarAs}
+use Rattle.lists.specs.internal.Lists.{stored}
 
 -- ── One entry ──
 
@@ -28,16 +27,10 @@ module _ {A : Type 0} where
   unfolding stored
   stored_small table place entry h = rw h
 
-  -- One that does not fit leaves the table as it is, and so does one beyond the end.
+  -- One that does not fit leaves the table as it is.
   pub stored_large : {small : Bool} (table : List A) (place : ℕ) (entry : A) → small ≡ false → table ≡ stored small table place entry
   unfolding stored
   stored_large table place entry h = rw h
-
-  pub stored_beyond :
-      (small : Bool) (table : List A) (place : ℕ) (entry : A) → length table ≤ place → table ≡ stored small table place entry
-  unfolding stored
-  stored_beyond true table place entry h = sym (set_out table place entry h)
-  stored_beyond false table place entry h = refl
 
   -- Entries set behind others are set with them.
   pub sets_behind : (held xs ys : List A) (n m : ℕ) → m ≡ n + length xs → sets (sets held n xs) m ys ≡ sets held n (xs ++ ys)
@@ -96,28 +89,22 @@ module _ {A : Type 0} where
   sets_beyond table [] place l = refl
   sets_beyond table (x ∷ xs) place l = rw (set_out table place x l) (sets_beyond table xs (suc place) (omega arith))
 
--- The first `place` entries up to `end` are 0: with the rest put to 0 the table is the one wanted.
-pub record Cleared (before : List ℕ) (count end : ℕ) (table : List ℕ) (place : ℕ) : Type 0 where
-  pub far : FarAs count (length before) end
-  pub low : place ≤ end
-  pub rest : sets table place (replicate (count - place) 0) ≡ sets before 0 (replicate count 0)
+  -- Behind an entry they are set as without it.
+  sets_cons : (x : A) (xs : List A) (place : ℕ) (ys : List A) → sets (x ∷ xs) (suc place) ys ≡ x ∷ sets xs place ys
+  sets_cons x xs place [] = refl
+  sets_cons x xs place (y ∷ ys) = sets_cons x (set xs place y) (suc place) ys
 
-pub cleared_start : (before : List ℕ) (count end : ℕ) → FarAs count (length before) end → Cleared before count end before 0
-cleared_start before count end far =
-    record { far = far; low = omega arith; rest = let e : count - 0 ≡ count = omega arith in rw e }
+-- Entries put to 0 as far as there are any are those that are set to 0.
+zeros_front :
+    (table : List ℕ) (count end : ℕ) → end ≡ min count (length table) →
+    replicate end 0 ++ drop end table ≡ sets table 0 (replicate count 0)
+zeros_front [] count end e = let none : end ≡ 0 = omega arith in rw none (sym (sets_beyond [] (replicate count 0) 0 (omega arith)))
+zeros_front (x ∷ xs) zero end e = let none : end ≡ 0 = omega arith in rw none
+zeros_front (x ∷ xs) (suc count) end e =
+    let more : end ≡ suc (min count (length xs)) = omega arith in
+    rw more (ap (λ (ys : List ℕ). 0 ∷ ys) (zeros_front xs count _ refl) ∙ sym (sets_cons 0 xs 0 (replicate count 0)))
 
-module _ {before : List ℕ} {count end : ℕ} {table : List ℕ} {place : ℕ} (cleared : Cleared before count end table place) where
-  pub cleared_length : length table ≡ length before
-  cleared_length =
-      sym (length-sets table place (replicate (count - place) 0)) ∙ ap length cleared.rest ∙ length-sets before 0 (replicate count 0)
-
-  pub cleared_turn : place < end → Cleared before count end (set table place 0) (place + 1)
-  cleared_turn l =
-      let more : count - place ≡ suc (count - (place + 1)) = omega (arith, cleared.far.counted) in
-      record { far = cleared.far; low = omega arith; rest = rw add-one (rw (more, add-one) at cleared.rest) }
-
-  -- At the end either the count is reached or the table has no more entries.
-  pub cleared_end : end ≤ place → table ≡ sets before 0 (replicate count 0)
-  cleared_end l =
-      ⊎_elim (λ none. sym (sets_beyond table (replicate (count - place) 0) place (omega (arith, cleared_length, cleared.low))) ∙ cleared.rest)
-      (λ some. let e : count - place ≡ 0 = omega (arith, cleared.far.stops some) in rw e at cleared.rest) (le_or_lt (length before) end)
+pub cleared_lem :
+    (table : List ℕ) (count : ℕ) {end : ℕ} {front : List ℕ} → end ≡ min count (length table) → front ≡ replicate (length (take end table)) 0 →
+    front ++ drop end table ≡ sets table 0 (replicate count 0)
+cleared_lem table count {end} e f = rw (f, length-take-le end table (omega arith)) (zeros_front table count end e)

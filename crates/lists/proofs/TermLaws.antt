@@ -13,15 +13,16 @@ use mir.Syntax.{w32}
 use mir.Val.{to_z, of_z}
 use mir.Facts.{to_z-of_z}
 use borrow.Author.Tests.{leb-true, lt-ltb, ltb-true}
+use Rattle.std.specs.Prelude.{Some}
 use Rattle.wellfounded.proofs.Tests.{first, second}
 use Rattle.tables.specs.Limits.{max_minutes, max_atoms}
-use Rattle.items.specs.declared.terms.Term.TheVariants.{Weighed}
 use Rattle.format.specs.Forms.{TermText, term_bytes, space}
 use Rattle.format.specs.Words.{word_at}
 use Rattle.format.specs.Parse.{read_term}
 use Rattle.numerals.specs.internal.Offsets.{clamped}
 use Rattle.items.specs.Items.{literal_code}
-use Rattle.items.specs.internal.Places.{capped_code, term_read_at}
+use Rattle.items.specs.internal.Places.{capped_code, term_of, term_read_at}
+use Rattle.items.specs.declared.terms.Term.{Term}
 use Rattle.numerals.proofs.CappedLaws.{clamped_small, clamped_within, clamped_fits}
 use Rattle.format.proofs.Pieces.{term_inverse}
 use Rattle.items.proofs.ItemLaws.{GotAt, byte_got, term_got}
@@ -34,6 +35,10 @@ use Rattle.lists.proofs.ListLaws.{PartsRead, listing_start, listing_turn, laid_m
 abbrev pub terms_laid : List ℕ → List ℤ → ℕ → List ℕ → List ℤ → List TermText → Type 0
 terms_laid literals₀ minutes₀ from literals minutes =
     λ ts. (literals ≡ sets literals₀ from (map (λ (t : TermText). literal_code t.literal) ts)) × (minutes ≡ sets minutes₀ from (map (λ (t : TermText). t.minutes) ts))
+
+term_fields : (t : TermText) {term : Term} → term ≡ term_of t → (term.minutes ≡ clamped t.minutes) × (term.literal ≡ capped_code t.literal)
+unfolding term_of
+term_fields t e = (ap (λ (it : Term). it.minutes) e, ap (λ (it : Term). it.literal) e)
 
 -- Code tests a term as its text is tested, and stores what its text says. It hands the minutes on by their bits.
 module _ (t : TermText) {worked : ℤ} {code : ℕ} (weighed : worked ≡ clamped t.minutes) (coded : code ≡ capped_code t.literal) where
@@ -69,13 +74,11 @@ module _ (t : TermText) {worked : ℤ} {code : ℕ} (weighed : worked ≡ clampe
 -- The loop over terms has come to `next`.
 pub record TermsCame (text : List ℕ) (at : ℕ) (literals₀ : List ℕ) (minutes₀ : List ℤ) (from : ℕ) (literals : List ℕ) (minutes : List ℤ) (next count : ℕ) (fine : Bool) : Type 0 where
   pub listing : PartsRead read_term term_within (λ ts. true) text at next count fine true (terms_laid literals₀ minutes₀ from literals minutes)
-  pub same_literals : length literals ≡ length literals₀
-  pub same_minutes : length minutes ≡ length minutes₀
 
 -- It starts with no terms read.
 module _ (text : List ℕ) (at : ℕ) (literals : List ℕ) (minutes : List ℤ) (from : ℕ) where
   pub terms_start : at ≤ length text → TermsCame text at literals minutes from literals minutes at 0 true
-  terms_start l = record { listing = listing_start l refl (refl, refl); same_literals = refl; same_minutes = refl }
+  terms_start l = record { listing = listing_start l refl (refl, refl) }
 
 -- Each turn moves on in the text, and stores the term that it has read.
 module _ {text : List ℕ} {at : ℕ} {literals₀ : List ℕ} {minutes₀ : List ℤ} {from : ℕ} {literals : List ℕ} {minutes : List ℤ} {next count : ℕ} {fine : Bool}
@@ -83,26 +86,23 @@ module _ {text : List ℕ} {at : ℕ} {literals₀ : List ℕ} {minutes₀ : Lis
   pub terms_count : count ≤ length text
   terms_count = let l = came.listing in omega (arith, l.counted, l.came.counted, l.came.inside)
 
-  module _ (spaced : word_at text next (space ∷ []) ≡ true) {worked : ℤ} {code after : ℕ} (read : term_read_at text (next + 1) ≡ Weighed worked code after) where
-    term_read : (t : TermText) × (worked ≡ clamped t.minutes) × (code ≡ capped_code t.literal) × GotAt read_term text (next + 1) after t
+  module _ (spaced : word_at text next (space ∷ []) ≡ true) {term : Term} {after : ℕ} (read : term_read_at text (next + 1) ≡ Some (term, after)) where
+    term_read : (t : TermText) × (term ≡ term_of t) × GotAt read_term text (next + 1) after t
     term_read = let l = (byte_got text next space spaced).1 in term_got (omega arith) read
 
     pub terms_on : length text - after < length text - next
-    terms_on = let g = term_read.3 in omega (arith, g.on, g.inside)
+    terms_on = let g = term_read.2 in omega (arith, g.on, g.inside)
 
     pub terms_turn :
-        {literals₁ : List ℕ} {minutes₁ : List ℤ} {small : Bool} → literals₁ ≡ stored (ltb code 65536) literals (from + count) code →
-        length literals₁ ≡ length literals →
-        minutes₁ ≡ stored (leb (nat_abs (to_z w32 (of_z w32 worked))) max_minutes) minutes (from + count) (to_z w32 (of_z w32 worked)) →
-        length minutes₁ ≡ length minutes →
-        small ≡ leb (nat_abs (to_z w32 (of_z w32 worked))) max_minutes →
-        TermsCame text at literals₀ minutes₀ from literals₁ minutes₁ after (count + 1) (fine && (small && ltb code (2 * max_atoms)))
-    terms_turn l sl m sm e =
+        {literals₁ : List ℕ} {minutes₁ : List ℤ} {small : Bool} → literals₁ ≡ stored (ltb term.literal 65536) literals (from + count) term.literal →
+        minutes₁ ≡ stored (leb (nat_abs (to_z w32 (of_z w32 term.minutes))) max_minutes) minutes (from + count) (to_z w32 (of_z w32 term.minutes)) →
+        small ≡ leb (nat_abs (to_z w32 (of_z w32 term.minutes))) max_minutes →
+        TermsCame text at literals₀ minutes₀ from literals₁ minutes₁ after (count + 1) (fine && (small && ltb term.literal (2 * max_atoms)))
+    terms_turn l m e =
         let r = term_read in
+        let f = term_fields r.0 r.1 in
         record {
           listing =
-              listing_turn term_bytes read_term term_inverse came.listing spaced r.3 refl (ap (λ (b : Bool). fine && b) (term_tested r.0 r.1 r.2 e)) refl
-              (λ ts n ws w laid. term_laid r.0 r.1 r.2 literals₀ minutes₀ from count l m ts n w laid);
-          same_literals = sl ∙ came.same_literals;
-          same_minutes = sm ∙ came.same_minutes;
+              listing_turn term_bytes read_term term_inverse came.listing spaced r.2 refl (ap (λ (b : Bool). fine && b) (term_tested r.0 f.0 f.1 e)) refl
+              (λ ts n ws w laid. term_laid r.0 f.0 f.1 literals₀ minutes₀ from count l m ts n w laid);
         }

@@ -14,10 +14,10 @@ ghost use Rattle.lists.specs.internal.Lists.{Inside, Laid, Lists, marked};
 
 use crate::stores::{minutes_within, store, store_minutes, store_value};
 use format::words::byte_at;
-use items::literals::{Literal, read_literal};
-use items::pairs::{Pair, read_pair};
-use items::terms::{Term, read_term};
-use numerals::numbers::{Number, read_number};
+use items::literals::read_literal;
+use items::pairs::read_pair;
+use items::terms::read_term;
+use numerals::numbers::read_number;
 use tables::sizes::{MAX_ATOMS, MAX_VALUE};
 
 pub mod stores;
@@ -25,16 +25,25 @@ pub mod stores;
 // Codes of literals lie below twice the most atoms.
 const LITERAL_CODES: usize = 2 * MAX_ATOMS;
 
-// How many parts were listed, whether all are within their limits, whether they rise or, if they are pairs, have a level for each group, and
-// the offset after them; or no list.
-#[derive(Drop)]
-pub enum Parts {
-    Listed(usize, bool, bool, usize),
-    NoList,
+// How many parts were listed, whether all are within their limits, and whether they stand as their form asks: they rise or, if they are
+// pairs, have a level for each group.
+#[derive(Clone, Copy)]
+pub struct Parts {
+    pub count: usize,
+    pub within: bool,
+    pub ordered: bool,
 }
 
-// The literals of a rule or a clause, stored from a place on.
-pub fn read_literals(text: &[u8], at: usize, literals: &mut [u16], from: usize) -> Parts
+// Each kind of part has its loop: one for all would need a trait for what is read and tested, and a struct for each set of tables that is
+// written, which is longer than the five loops.
+
+// The literals of a rule or a clause, stored from a place on. The offset after the closing bracket is answered with them, as by all that follow.
+pub fn read_literals(
+    text: &[u8],
+    at: usize,
+    literals: &mut [u16],
+    from: usize,
+) -> Option<(Parts, usize)>
     requires inside { Inside text.now at }
     requires from_le_max_literals { from ≤ max_literals }
     ensures { Lists text.now literal_within (λ ls. true) (parts read_literal (drop at text.now)) result
@@ -44,18 +53,23 @@ pub fn read_literals(text: &[u8], at: usize, literals: &mut [u16], from: usize) 
     let mut count = 0;
     let mut within = true;
     while byte_at(text, next, b' ') {
-        let Literal::Coded(literal, after) = read_literal(text, next + 1) else {
-            return Parts::NoList;
-        };
+        let (literal, after) = read_literal(text, next + 1)?;
         store(literals, from + count, literal);
         within = within & (literal < LITERAL_CODES);
         count += 1;
         next = after;
     }
     if !byte_at(text, next, b')') {
-        return Parts::NoList;
+        return None;
     }
-    Parts::Listed(count, within, true, next + 1)
+    Some((
+        Parts {
+            count,
+            within,
+            ordered: true,
+        },
+        next + 1,
+    ))
 }
 
 // The terms of a load line, their literals and minutes stored from a place on.
@@ -65,7 +79,7 @@ pub fn read_terms(
     load_literals: &mut [u16],
     minutes: &mut [i16],
     from: usize,
-) -> Parts
+) -> Option<(Parts, usize)>
     requires inside { Inside text.now at }
     requires from_le_max_terms { from ≤ max_terms }
     ensures { Lists text.now term_within (λ ts. true) (parts read_term (drop at text.now)) result
@@ -77,23 +91,28 @@ pub fn read_terms(
     let mut count = 0;
     let mut within = true;
     while byte_at(text, next, b' ') {
-        let Term::Weighed(worked, literal, after) = read_term(text, next + 1) else {
-            return Parts::NoList;
-        };
-        store(load_literals, from + count, literal);
-        store_minutes(minutes, from + count, worked);
-        within = within & (minutes_within(worked) & (literal < LITERAL_CODES));
+        let (term, after) = read_term(text, next + 1)?;
+        store(load_literals, from + count, term.literal);
+        store_minutes(minutes, from + count, term.minutes);
+        within = within & (minutes_within(term.minutes) & (term.literal < LITERAL_CODES));
         count += 1;
         next = after;
     }
     if !byte_at(text, next, b')') {
-        return Parts::NoList;
+        return None;
     }
-    Parts::Listed(count, within, true, next + 1)
+    Some((
+        Parts {
+            count,
+            within,
+            ordered: true,
+        },
+        next + 1,
+    ))
 }
 
 // The atoms that an open or a defined form names, each marked in a table with an entry for each atom.
-pub fn read_atoms(text: &[u8], at: usize, bound: usize, table: &mut [u8]) -> Parts
+pub fn read_atoms(text: &[u8], at: usize, bound: usize, table: &mut [u8]) -> Option<(Parts, usize)>
     requires inside { Inside text.now at }
     requires bound_le_max_atoms { bound ≤ max_atoms }
     ensures { Lists text.now (λ atom. ltb atom bound) capped_rise (parts read_number (drop at text.now)) result
@@ -105,8 +124,8 @@ pub fn read_atoms(text: &[u8], at: usize, bound: usize, table: &mut [u8]) -> Par
     let mut rising = true;
     let mut floor = 0;
     while byte_at(text, next, b' ') {
-        let Number::Read(atom, after) = read_number(text, next + 1) else {
-            return Parts::NoList;
+        let Some((atom, after)) = read_number(text, next + 1) else {
+            return None;
         };
         store_value(table, atom, 1);
         within = within & (atom < bound);
@@ -116,9 +135,16 @@ pub fn read_atoms(text: &[u8], at: usize, bound: usize, table: &mut [u8]) -> Par
         next = after;
     }
     if !byte_at(text, next, b')') {
-        return Parts::NoList;
+        return None;
     }
-    Parts::Listed(count, within, rising, next + 1)
+    Some((
+        Parts {
+            count,
+            within,
+            ordered: rising,
+        },
+        next + 1,
+    ))
 }
 
 // The pairs of a claim: their values, and their levels in the first group. It tells too whether each has a level for each group.
@@ -128,7 +154,7 @@ fn read_values(
     groups: usize,
     values: &mut [u8],
     levels: &mut [u16],
-) -> Parts
+) -> Option<(Parts, usize)>
     requires { Inside text.now at }
     ensures { Lists text.now pair_within (all (levels_for groups)) (parts read_pair (drop at text.now)) result
         (λ ps. (values.new ≡ sets values.old 0 (map (λ (p : PairText). p.value) ps))
@@ -139,20 +165,25 @@ fn read_values(
     let mut within = true;
     let mut levelled = true;
     while byte_at(text, next, b' ') {
-        let Pair::Paired(value, level, told, low, after) = read_pair(text, next + 1, 0) else {
-            return Parts::NoList;
-        };
-        store_value(values, count, value);
-        store(levels, count, level);
-        within = within & ((value <= MAX_VALUE) & low);
-        levelled = levelled & (told == groups);
+        let (pair, after) = read_pair(text, next + 1, 0)?;
+        store_value(values, count, pair.value);
+        store(levels, count, pair.levels.level);
+        within = within & ((pair.value <= MAX_VALUE) & pair.levels.within);
+        levelled = levelled & (pair.levels.count == groups);
         count += 1;
         next = after;
     }
     if !byte_at(text, next, b')') {
-        return Parts::NoList;
+        return None;
     }
-    Parts::Listed(count, within, levelled, next + 1)
+    Some((
+        Parts {
+            count,
+            within,
+            ordered: levelled,
+        },
+        next + 1,
+    ))
 }
 
 // The levels of a claim's pairs in one group, stored from a place on.
@@ -165,10 +196,10 @@ fn read_column(text: &[u8], at: usize, group: usize, levels: &mut [u16], from: u
     let mut next = at;
     let mut count = 0;
     while byte_at(text, next, b' ') {
-        let Pair::Paired(value, level, told, low, after) = read_pair(text, next + 1, group) else {
+        let Some((pair, after)) = read_pair(text, next + 1, group) else {
             return;
         };
-        store(levels, from + count, level);
+        store(levels, from + count, pair.levels.level);
         count += 1;
         next = after;
     }
@@ -182,12 +213,8 @@ fn read_columns(text: &[u8], at: usize, groups: usize, size: usize, levels: &mut
         (before : List ℕ) → levels.old ≡ sets before 0 (level_columns 1 ps) →
         levels.new ≡ sets before 0 (level_columns groups ps)) }
 {
-    let mut group = 1;
-    let mut from = size;
-    while group < groups {
-        read_column(text, at, group, levels, from);
-        group += 1;
-        from += size;
+    for group in 1..groups {
+        read_column(text, at, group, levels, group * size);
     }
 }
 
@@ -199,7 +226,7 @@ pub fn read_pairs(
     size: usize,
     values: &mut [u8],
     levels: &mut [u16],
-) -> Parts
+) -> Option<(Parts, usize)>
     requires inside { Inside text.now at }
     requires le_groups { (1 ≤ groups) × (groups ≤ max_bytes) × (size ≤ max_atoms) }
     ensures { Lists text.now pair_within (all (levels_for groups)) (parts read_pair (drop at text.now)) result

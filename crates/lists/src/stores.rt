@@ -4,23 +4,28 @@ ghost use Rattle.std.proofs.lemmas.List.Edits.{sets};
 ghost use Rattle.tables.specs.Loads.{load_width};
 ghost use Rattle.tables.specs.Rows.{rule_width, clause_width};
 ghost use Rattle.tables.specs.Limits.{max_minutes, max_rule_rows, max_clause_rows, max_load_rows, max_value};
-ghost use Rattle.lists.specs.internal.Lists.{stored, FarAs};
+ghost use Rattle.lists.specs.internal.Lists.{stored};
 
-use tables::sizes::{MAX_MINUTES, MAX_VALUE};
+use tables::sizes::MAX_MINUTES;
 
-// Minutes as they are read, and how many values a byte has.
-const WIDE_MINUTES: i32 = MAX_MINUTES as i32;
+// The most minutes, of minutes as they are read.
+const WIDE_MINUTES: u32 = MAX_MINUTES as u32;
 
-const VALUES: usize = MAX_VALUE + 1;
+// Puts an entry where it has a place in its table.
+pub fn put<T: Copy>(table: &mut [T], place: usize, entry: T)
+    ensures { table.new ≡ set table.old place entry }
+{
+    if place < table.len() {
+        table[place] = entry;
+    }
+}
 
 // Stores an entry of 16 bits.
 pub fn store(table: &mut [u16], place: usize, entry: usize)
     ensures { table.new ≡ stored (ltb entry 65536) table.old place entry }
 {
-    if place < table.len() {
-        if entry < 65536 {
-            table[place] = entry as u16;
-        }
+    if let Ok(entry) = u16::try_from(entry) {
+        put(table, place, entry);
     }
 }
 
@@ -28,10 +33,8 @@ pub fn store(table: &mut [u16], place: usize, entry: usize)
 pub fn store_value(values: &mut [u8], place: usize, value: usize)
     ensures { values.new ≡ stored (ltb value (suc max_value)) values.old place value }
 {
-    if place < values.len() {
-        if value < VALUES {
-            values[place] = value as u8;
-        }
+    if let Ok(value) = u8::try_from(value) {
+        put(values, place, value);
     }
 }
 
@@ -39,26 +42,15 @@ pub fn store_value(values: &mut [u8], place: usize, value: usize)
 pub fn minutes_within(minutes: i32) -> bool
     ensures { result ≡ leb (nat_abs minutes) max_minutes }
 {
-    (-WIDE_MINUTES <= minutes) & (minutes <= WIDE_MINUTES)
+    minutes.unsigned_abs() <= WIDE_MINUTES
 }
 
-// Stores minutes.
+// Stores minutes, by the limit of minutes, which is that of no type.
 pub fn store_minutes(table: &mut [i16], place: usize, minutes: i32)
     ensures { table.new ≡ stored (leb (nat_abs minutes) max_minutes) table.old place minutes }
 {
-    if place < table.len() {
-        if minutes_within(minutes) {
-            table[place] = minutes as i16;
-        }
-    }
-}
-
-// Stores a bound, a start or a count of a load row.
-pub fn store_whole(loads: &mut [i32], place: usize, entry: i32)
-    ensures { loads.new ≡ set loads.old place entry }
-{
-    if place < loads.len() {
-        loads[place] = entry;
+    if minutes_within(minutes) {
+        put(table, place, minutes as i16);
     }
 }
 
@@ -86,27 +78,16 @@ pub fn store_load(loads: &mut [i32], place: usize, low: i32, high: i32, start: u
     requires { (place ≤ max_load_rows * load_width) × (start < 65536) × (count < 65536) }
     ensures { loads.new ≡ sets loads.old place (low ∷ high ∷ pos start ∷ pos count ∷ []) }
 {
-    store_whole(loads, place, low);
-    store_whole(loads, place + 1, high);
-    store_whole(loads, place + 2, start as i32);
-    store_whole(loads, place + 3, count as i32);
-}
-
-// The smaller of a count and a length.
-fn as_far_as(count: usize, length: usize) -> usize
-    ensures { FarAs count length result }
-{
-    if count < length { count } else { length }
+    put(loads, place, low);
+    put(loads, place + 1, high);
+    put(loads, place + 2, start as i32);
+    put(loads, place + 3, count as i32);
 }
 
 // Puts 0 at the first `count` entries, as far as there are any.
 pub fn clear(table: &mut [u8], count: usize)
     ensures { table.new ≡ sets table.old 0 (replicate count 0) }
 {
-    let end = as_far_as(count, table.len());
-    let mut place = 0;
-    while place < end {
-        table[place] = 0;
-        place += 1;
-    }
+    let end = count.min(table.len());
+    table[..end].fill(0);
 }

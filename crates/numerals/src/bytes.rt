@@ -16,7 +16,7 @@ pub enum Class {
     Other,
 }
 
-// The class that a byte falls into.
+// The class that a byte falls into. The ranges are the form that docs/DECISIONS.md names for it.
 pub fn class_of(byte: u8) -> Class
     ensures { result ≡ class_of byte }
 {

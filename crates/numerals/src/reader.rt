@@ -3,7 +3,7 @@
 ghost use Rattle.std.specs.Prelude.{◌≡◌};
 ghost use Rattle.numerals.specs.internal.Offsets.{number_at};
 
-use crate::numbers::{Number, number_from};
+use crate::numbers::number_from;
 
 // A lent text with the offset that was reached in it.
 #[derive(Drop)]
@@ -30,8 +30,8 @@ impl<'a> Reader<'a> {
         }
     }
 
-    // The number at the offset.
-    pub fn number(self) -> Number
+    // The number at the offset, with the offset after it.
+    pub fn number(self) -> Option<(usize, usize)>
         ensures { result ≡ number_at self.entry.text.now self.entry.offset }
     {
         number_from(self.text, self.offset)

@@ -6,8 +6,8 @@ use mathlib.Core.List.{List}
 use native.Mathlib.Omega.{arith}
 use lib.ListN.{length, get_or}
 use Rattle.wellfounded.proofs.Closure.{model_length, stages_length, stages_closure, model_values}
-use Rattle.tables.specs.declared.Verdict.{Verdict}
-use Rattle.tables.specs.declared.Verdict.TheVariants.{Accepted, Refused}
+use Rattle.std.specs.declared.result.Result.TheVariants.{Ok, Err}
+use Rattle.tables.specs.Faults.{Verdict}
 use Rattle.tables.specs.Limits.{max_atoms, max_position}
 use Rattle.tables.specs.Faults.{position_of, first_fault}
 use Rattle.tables.specs.Sound.{Tables, book_of, Slice}
@@ -45,7 +45,7 @@ evaluation_bounded t given = step (first_fault (refusal_tests t given slices)) r
     slices = evaluation_slices t.atoms (length given) t.atoms t.atoms t.atoms
 
     step : (v : Verdict) → first_fault (refusal_tests t given slices) ≡ v → Bounded (unless_stopped v (evaluated t given))
-    step Accepted e =
+    step (Ok nothing) e =
         record {
           position = model_position t (small_tables t given slices e) _;
           rounds = small_closure t given slices e;
@@ -54,7 +54,7 @@ evaluation_bounded t given = step (first_fault (refusal_tests t given slices)) r
           values = model_values (book_of t) given (open_given t given slices e);
           levels = stages_closure (book_of t) given;
         }
-    step (Refused fault position) e = alone_bounded OpenState _ (rw e at (refusal_position t given slices))
+    step (Err refusal) e = alone_bounded OpenState _ (rw e at (refusal_position t given slices))
 
 pub outcome_bounded : (text : List ℕ) → Bounded (outcome_of text)
 unfolding outcome_of answer_outcome book_outcome

@@ -8,6 +8,7 @@ use native.Mathlib.Omega.{arith}
 use lib.Dec.{eqb}
 use lib.ListN.{get_or}
 use borrow.Author.Tests.{eqb-true, eq-eqb}
+use Rattle.std.specs.Prelude.{Ok}
 use Rattle.wellfounded.specs.Lists.{all, any}
 use Rattle.wellfounded.proofs.Lists.{any_use, any_make}
 use Rattle.wellfounded.proofs.Tests.{clash}
@@ -22,7 +23,6 @@ use Rattle.checker.specs.Check.{claim_tests, check_tests, check_of}
 use Rattle.checker.proofs.ClaimFaults.{claim_faults_lem}
 use Rattle.evaluator.specs.Evaluate.{setting_test, undecided_test, refusal_tests, model_tests}
 use Rattle.judging.specs.declared.reached.Reached.{Reached}
-use Rattle.judging.specs.declared.reached.Judged.TheVariants.{Passed}
 use Rattle.judging.specs.Judging.{judge_text, forms_of}
 use Rattle.judging.proofs.Refusals.{refused_low}
 use Rattle.forms.specs.Entries.{book_entries}
@@ -42,7 +42,7 @@ ones_small {size} {atoms} {entries} o atom = step (any (eqb atom) atoms) refl
         omega (arith, o.named atom (subst (λ (k : ℕ). Memᴰ k atoms) (sym (eqb-true atom found.0 found.2)) found.1))
     step false e = omega (arith, o.others atom (λ m. clash (any_make (eqb atom) atoms m (eq-eqb atom atom refl)) e))
 
-text_marks : (text : List ℕ) (s : Reached) → judge_text full_space text ≡ Passed s → MarksFit (tables_of s.size (book_entries (forms_of text)))
+text_marks : (text : List ℕ) (s : Reached) → judge_text full_space text ≡ Ok s → MarksFit (tables_of s.size (book_entries (forms_of text)))
 unfolding tables_of lent
 text_marks text s e = let ones = mark_entries full_space text s e in record { many = ones.many; small = λ atom l. ones_small ones atom }
 

@@ -11,7 +11,7 @@ use Rattle.wellfounded.specs.Lists.{all}
 use Rattle.wellfounded.proofs.Tests.{clash}
 use Rattle.tables.specs.declared.Fault.{Fault}
 use Rattle.tables.specs.declared.Fault.TheVariants.{NoSpace, TextSize, IndexSize}
-use Rattle.tables.specs.declared.Verdict.TheVariants.{Refused}
+use Rattle.tables.specs.Faults.{refused}
 use Rattle.tables.specs.Faults.{fault_number, number_of}
 use Rattle.tables.specs.Sound.{Tables, table_tests, slice_test, mark_count_test, mark_test, lent_tests}
 use Rattle.tables.proofs.Faults.{refused_among}
@@ -45,7 +45,7 @@ no_such_test fault none t =
 
 -- So an outcome is never refused for want of space: its number is never 4.
 module _ (text : List ℕ) where
-  pub outcome_space : (at : ℕ) → (outcome_of text).verdict ≡ Refused NoSpace at → ⊥
+  pub outcome_space : (at : ℕ) → (outcome_of text).verdict ≡ refused NoSpace at → ⊥
   outcome_space = outcome_never NoSpace text (λ at. full_space_lem full_space text at full_tables) (λ s d. no_such_test NoSpace refl _)
 
   pub never_four : number_of (outcome_of text).verdict ≡ 4 → ⊥

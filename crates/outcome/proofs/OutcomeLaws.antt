@@ -3,20 +3,18 @@
 -- Assumes nothing.
 use Prim.Native.Nat.{ℕ, ◌+◌, ◌*◌, ◌-◌, ◌≤◌}
 use mathlib.Core.Path.{◌≡◌, refl, sym, ap, ◌∙◌}
-use mathlib.Core.Bool.{Bool, true, false, cond}
+use mathlib.Core.Bool.{Bool, false, cond}
 use mathlib.Core.List.{List, ◌++◌}
 use native.Mathlib.Nat.{sub-zero}
 use native.Mathlib.Omega.{arith}
-use lib.Dec.{eqb}
 use lib.ListN.{length, take, drop, replicate, length-take, length-replicate, take-append-drop}
 use lib.Seq.{length-take-le}
-use borrow.Author.Tests.{eqb-true}
+use Rattle.std.specs.Prelude.{Result, Ok, Err}
 use Rattle.wellfounded.specs.Stages.{well_founded_model, stages_of}
 use Rattle.wellfounded.proofs.Closure.{model_length, stages_length}
 use Rattle.tables.proofs.RowLaws.{book_size}
 use Rattle.tables.specs.declared.Fault.{Fault}
-use Rattle.tables.specs.declared.Verdict.{Verdict}
-use Rattle.tables.specs.declared.Verdict.TheVariants.{Accepted, Refused}
+use Rattle.tables.specs.Faults.{Verdict, accepted}
 use Rattle.tables.specs.Faults.{first_fault}
 use Rattle.tables.specs.Limits.{max_atoms, max_literals, max_rule_rows}
 use Rattle.tables.specs.Rows.{rule_count, literals_by_rule}
@@ -26,13 +24,14 @@ use Rattle.evaluator.specs.Evaluate.{evaluation_slices, refusal_tests, is_made, 
 use Rattle.evaluator.proofs.MadeLaws.{stopped_unmade, model_made}
 use Rattle.indexed.specs.EvaluateIndexed.{EvaluatesIndexed}
 use Rattle.indexed.proofs.Theorems.{both_answer}
+use Rattle.tables.specs.declared.Refusal.{Refusal}
 use Rattle.judging.specs.declared.reached.Reached.{Reached}
 use Rattle.judging.specs.declared.reached.Space.{Space}
-use Rattle.judging.specs.declared.reached.Judged.{Judged}
-use Rattle.judging.specs.declared.reached.Judged.TheVariants.{Passed, Failed}
 use Rattle.judging.specs.LentTables.{Table, Rules, Literals, Clauses, Loads, LoadLiterals, Minutes, Marks, Values, Levels, full_size, space_with}
-use Rattle.judging.specs.States.{open_stood, claim_stood, count_in}
-use Rattle.judging.specs.Judging.{judge_text, forms_of}
+use Rattle.judging.specs.declared.reached.Phase.{Phase}
+use Rattle.judging.specs.declared.reached.Phase.TheVariants.{NothingYet, AtomsStood, InRules, InClauses, InLoads, OpenStood, ClaimStood}
+use Rattle.judging.specs.States.{rank, count_in}
+use Rattle.judging.specs.Judging.{failed, judge_text, forms_of}
 use Rattle.judging.proofs.TableLaws.{each_table}
 use Rattle.judging.proofs.Counts.{CountsWithin, counts_within_lem}
 use Rattle.judging.proofs.Accepted.{accepted_book, accepted_size}
@@ -65,7 +64,7 @@ module _
       GivesOutcome (unless_stopped stop (evaluated t given)) values levels verdict OpenState (cond made t.atoms 0) rounds
       (valuesAfter ++ drop t.atoms values) (levels_after ++ drop t.atoms levels)
   unfolding stopped_or evaluated unless_stopped verdict_alone over is_made
-  stopped_comes work work_after Accepted e a =
+  stopped_comes work work_after (Ok nothing) e a =
       let all : length (well_founded_model (book_of t) given) ≡ t.atoms = model_length (book_of t) given ∙ book_size t in
       let each : length (stages_of (book_of t) given) ≡ t.atoms = stages_length (book_of t) given ∙ book_size t in
       record {
@@ -76,11 +75,11 @@ module _
         values_is = rw (a.values_is, all);
         levels_is = rw (a.levels_is, each);
       }
-  stopped_comes work work_after (Refused fault at) e a =
+  stopped_comes work work_after (Err refusal) e a =
       record {
         verdict_is = a.verdict_is;
         state_is = refl;
-        atoms_is = rw (isMadeSo, a.verdict_is, stopped_unmade t given _ fault at e);
+        atoms_is = rw (isMadeSo, a.verdict_is, stopped_unmade t given _ refusal.fault refusal.position e);
         rounds_is = a.rounds_is;
         values_is = rw (a.values_is, take-append-drop t.atoms values);
         levels_is = rw (a.levels_is, take-append-drop t.atoms levels);
@@ -194,20 +193,24 @@ module _ {values levels : List ℕ} {verdict : Verdict} {state : StateForm} {ato
 -- The used parts of filled tables are the entries, and so they come to the same by each state form.
 module _ (s : Reached) (used held : Contents) (counts : (table : Table) → length (used table) ≡ count_in s table) where
   used_outcome :
-      book_outcome Accepted (state_of s.phase) s.size (used_parts (answer_of (Passed s)) (filled used held))
-      ≡ book_outcome Accepted (state_of s.phase) s.size used
+      book_outcome accepted (state_of s.phase) s.size (used_parts (answer_of (Ok s)) (filled used held))
+      ≡ book_outcome accepted (state_of s.phase) s.size used
   unfolding book_outcome state_of
-  used_outcome = step (eqb s.phase open_stood) refl (eqb s.phase claim_stood) refl
+  used_outcome = step s.phase refl
     where
       step :
-          (a : Bool) → eqb s.phase open_stood ≡ a → (b : Bool) → eqb s.phase claim_stood ≡ b →
-          book_outcome Accepted (cond a OpenState (cond b ClaimState NoState)) s.size (used_parts (answer_of (Passed s)) (filled used held))
-          ≡ book_outcome Accepted (cond a OpenState (cond b ClaimState NoState)) s.size used
-      step true d b e = let opened = eqb-true s.phase open_stood d in rw (used_tables s used held counts (omega arith), used_values s used held counts (omega arith))
-      step false d true e =
-          let claimed = eqb-true s.phase claim_stood e in
+          (p : Phase) → s.phase ≡ p →
+          book_outcome accepted (state_of p) s.size (used_parts (answer_of (Ok s)) (filled used held))
+          ≡ book_outcome accepted (state_of p) s.size used
+      step OpenStood e = let opened = ap rank e in rw (used_tables s used held counts (omega arith), used_values s used held counts (omega arith))
+      step ClaimStood e =
+          let claimed = ap rank e in
           rw (used_tables s used held counts (omega arith), used_values s used held counts (omega arith), used_levels s used held counts (omega arith))
-      step false d false e = refl
+      step NothingYet e = refl
+      step AtomsStood e = refl
+      step InRules e = refl
+      step InClauses e = refl
+      step InLoads e = refl
 
 -- A text that was read: the answer fits the tables afterwards, and their used parts make the outcome of the text.
 pub record Read (text : List ℕ) (book : Book) (afterwards : Contents) : Type 0 where
@@ -223,26 +226,26 @@ full_atoms before e = (ap (λ (space : Space). space.marks) e, ap (λ (space : S
 
 passed_fits :
     (s : Reached) (used before : Contents) → ((table : Table) → length (used table) ≡ count_in s table) → s.size ≤ max_atoms → CountsWithin s →
-    literals_by_rule (used_parts (answer_of (Passed s)) (filled used before) Rules) ≤ max_literals → space_of before ≡ full_space →
-    FitsBook (answer_of (Passed s)) (filled used before)
+    literals_by_rule (used_parts (answer_of (Ok s)) (filled used before) Rules) ≤ max_literals → space_of before ≡ full_space →
+    FitsBook (answer_of (Ok s)) (filled used before)
 unfolding filled given_anew used_in answer_of
 passed_fits s used before counts few within few_literals full =
     let long = full_atoms before full in
-    let laid : (table : Table) → given_anew table ≡ false → used_in (answer_of (Passed s)) table ≤ length (over (used table) (before table)) =
+    let laid : (table : Table) → given_anew table ≡ false → used_in (answer_of (Ok s)) table ≤ length (over (used table) (before table)) =
     (λ table e. omega (arith, laid_used s used before counts table e, counts table, over_used (used table) (before table))) in
     record {
       few = few;
       few_rules = within.rules;
       few_literals = few_literals;
       each =
-          each_table (λ table. used_in (answer_of (Passed s)) table ≤ length (over (used table) (before table))) (laid Rules refl) (laid Literals refl)
+          each_table (λ table. used_in (answer_of (Ok s)) table ≤ length (over (used table) (before table))) (laid Rules refl) (laid Literals refl)
           (laid Clauses refl) (laid Loads refl) (laid LoadLiterals refl) (laid Minutes refl)
           (omega (arith, over_held (used Marks) (before Marks))) (omega (arith, over_held (used Values) (before Values))) (omega (arith, over_held (used Levels) (before Levels)));
     }
 
 passed_read :
-    (text : List ℕ) (before : Contents) (s : Reached) → space_of before ≡ full_space → judge_text full_space text ≡ Passed s →
-    Read text (answer_of (Passed s)) (filled (book_entries (forms_of text)) before)
+    (text : List ℕ) (before : Contents) (s : Reached) → space_of before ≡ full_space → judge_text full_space text ≡ Ok s →
+    Read text (answer_of (Ok s)) (filled (book_entries (forms_of text)) before)
 unfolding outcome_of answer_outcome answer_of
 passed_read text before s full e =
     let found = accepted_book full_space text s e in
@@ -257,8 +260,8 @@ passed_read text before s full e =
     }
 
 failed_read :
-    (text : List ℕ) (before : Contents) (fault : Fault) (at : ℕ) → judge_text full_space text ≡ Failed fault at →
-    Read text (answer_of (Failed fault at)) before
+    (text : List ℕ) (before : Contents) (fault : Fault) (at : ℕ) → judge_text full_space text ≡ failed fault at →
+    Read text (answer_of (failed fault at)) before
 unfolding outcome_of answer_outcome answer_of book_outcome used_in
 failed_read text before fault at e =
     record {
@@ -268,22 +271,22 @@ failed_read text before fault at e =
             few_rules = omega arith;
             few_literals = unused_few_literals fault at before;
             each =
-                each_table (λ table. used_in (answer_of (Failed fault at)) table ≤ length (before table)) (omega arith) (omega arith) (omega arith)
+                each_table (λ table. used_in (answer_of (failed fault at)) table ≤ length (before table)) (omega arith) (omega arith) (omega arith)
                 (omega arith) (omega arith) (omega arith) (omega arith) (omega arith) (omega arith);
           };
       comes = rw e;
     }
 
 pub text_read :
-    (text : List ℕ) (before : Contents) {space : Space} {j : Judged} {book : Book} {afterwards : Contents} → space_of before ≡ full_space →
+    (text : List ℕ) (before : Contents) {space : Space} {j : Result Reached Refusal} {book : Book} {afterwards : Contents} → space_of before ≡ full_space →
     space ≡ full_space → Walked text space before j afterwards → book ≡ answer_of j → Read text book afterwards
 text_read text before {space} {j} {book} {afterwards} full whole walk a = step (judge_text full_space text) refl
   where
     w : Walked text full_space before j afterwards
     w = rw whole at walk
 
-    step : (told : Judged) → judge_text full_space text ≡ told → Read text book afterwards
-    step (Passed s) e =
+    step : (told : Result Reached Refusal) → judge_text full_space text ≡ told → Read text book afterwards
+    step (Ok s) e =
         let walked : Walked text (space_of before) before j afterwards = rw full w in
         rw (a, w.answered ∙ e, walk_fills walked (w.answered ∙ e)) (passed_read text before s full e)
-    step (Failed fault at) e = rw (a, w.answered ∙ e) (failed_read text afterwards fault at e)
+    step (Err why) e = rw (a, w.answered ∙ e) (failed_read text afterwards why.fault why.position e)

@@ -1,8 +1,7 @@
 -- What a text comes to: its verdict, and for an open form what was made.
 use Rattle.std.specs.Prelude.{ℕ, List, [], length}
-use Rattle.tables.specs.declared.Verdict.{Verdict}
-use Rattle.tables.specs.declared.Verdict.TheVariants.{Accepted, Refused}
-use Rattle.tables.specs.Faults.{first_fault}
+use Rattle.std.specs.declared.result.Result.TheVariants.{Ok, Err}
+use Rattle.tables.specs.Faults.{Verdict, first_fault}
 use Rattle.tables.specs.Sound.{Tables}
 use Rattle.checker.specs.Check.{check_of}
 use Rattle.evaluator.specs.Evaluate.{evaluation_slices, refusal_tests, Evaluation, evaluated}
@@ -36,8 +35,8 @@ verdict_alone state verdict = record { verdict = verdict; state = state; rounds 
 
 -- An evaluation is stopped by a fault of the tables or of the open values, or it is made.
 unfoldable pub unless_stopped : Verdict → Evaluation → TextOutcome
-unless_stopped Accepted e = record { verdict = e.verdict; state = OpenState; rounds = e.rounds; values = e.values; levels = e.levels }
-unless_stopped (Refused fault position) e = verdict_alone OpenState (Refused fault position)
+unless_stopped (Ok nothing) e = record { verdict = e.verdict; state = OpenState; rounds = e.rounds; values = e.values; levels = e.levels }
+unless_stopped (Err refusal) e = verdict_alone OpenState (Err refusal)
 
 unfoldable pub evaluation_outcome : Tables → List ℕ → TextOutcome
 evaluation_outcome t given =

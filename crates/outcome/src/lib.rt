@@ -23,7 +23,8 @@ use tables::sizes::{
 use tables::totals::rules_total;
 use tables::{Fault, Verdict};
 
-// The verdict, the state form, for how many atoms values and levels were made, and the rounds.
+// The verdict, the state form, for how many atoms values and levels were made, and the rounds. No Result: rounds are told beside the refusals
+// 25 to 27 too, and the state form beside every verdict.
 #[derive(Drop)]
 pub struct Outcome {
     pub verdict: Verdict,
@@ -37,11 +38,9 @@ pub fn is_made(verdict: Verdict) -> bool
     ensures { result ≡ is_made verdict }
 {
     match verdict {
-        Verdict::Accepted => true,
-        Verdict::Refused(fault, _) => match fault {
-            Fault::Undecided => true,
-            Fault::FailingClause => true,
-            Fault::FailingLoad => true,
+        Ok(()) => true,
+        Err(refusal) => match refusal.fault {
+            Fault::Undecided | Fault::FailingClause | Fault::FailingLoad => true,
             _ => false,
         },
     }

@@ -8,8 +8,8 @@ use native.Mathlib.Omega.{arith}
 use native.Mathlib.Nat.{suc-mul}
 use lib.ListN.{length, get_or, length-append}
 use borrow.Author.Tests.{not-true, not-false}
-use Rattle.tables.specs.declared.Verdict.{Verdict}
-use Rattle.tables.specs.declared.Verdict.TheVariants.{Accepted, Refused}
+use Rattle.std.specs.declared.result.Result.TheVariants.{Ok, Err}
+use Rattle.tables.specs.Faults.{Verdict, accepted, refused}
 use Rattle.tables.specs.declared.Fault.{Fault}
 use Rattle.tables.specs.Limits.{max_atoms, max_position}
 use Rattle.tables.specs.Faults.{fault_number, position_of}
@@ -32,12 +32,12 @@ pub length_made_line : (rounds : ℕ) → length (made_line rounds) ≡ 8 + leng
 unfolding made_line
 length_made_line rounds = simp length-append (omega arith)
 
-pub length_accepted : (v : Verdict) → v ≡ Accepted → length (verdict_line v) ≡ 11
+pub length_accepted : (v : Verdict) → v ≡ accepted → length (verdict_line v) ≡ 11
 unfolding verdict_line
 length_accepted v e = rw e
 
 pub length_refused :
-    (v : Verdict) (fault : Fault) (position number : ℕ) → v ≡ Refused fault position → number ≡ fault_number fault →
+    (v : Verdict) (fault : Fault) (position number : ℕ) → v ≡ refused fault position → number ≡ fault_number fault →
     length (verdict_line v) ≡ 12 + (length (decimal number) + length (decimal position))
 unfolding verdict_line
 length_refused v fault position number e n = rw (e, n) (simp length-append (omega arith))
@@ -89,10 +89,10 @@ made_short rounds h = omega (arith, length_made_line rounds, length_4 rounds (om
 
 verdict_short : (v : Verdict) → position_of v ≤ max_position → length (verdict_line v) ≤ 19
 unfolding verdict_line
-verdict_short Accepted h = omega arith
-verdict_short (Refused fault position) h =
-    let n = length_2 (fault_number fault) (number_bounds fault).1 in
-    let p = length_5 position (omega arith) in
+verdict_short (Ok nothing) h = omega arith
+verdict_short (Err refusal) h =
+    let n = length_2 (fault_number refusal.fault) (number_bounds refusal.fault).1 in
+    let p = length_5 refusal.position (omega arith) in
     simp length-append (omega arith)
 
 -- No page is longer than the buffer for it.
@@ -111,8 +111,8 @@ page_size_lem true verdict rounds values levels small low even few short near =
 -- Each ends with a verdict.
 verdict_some : (verdict : Verdict) → 1 ≤ length (verdict_line verdict)
 unfolding verdict_line
-verdict_some Accepted = omega arith
-verdict_some (Refused fault position) = simp length-append (omega arith)
+verdict_some (Ok nothing) = omega arith
+verdict_some (Err r) = simp length-append (omega arith)
 
 pub page_some : (made : Bool) (verdict : Verdict) (rounds : ℕ) (values levels : List ℕ) → 1 ≤ length (page_of made verdict rounds values levels)
 unfolding page_of

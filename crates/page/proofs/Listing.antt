@@ -8,8 +8,7 @@ use lib.ListN.{length, get_or}
 use borrow.Author.Tests.{not-true, not-false}
 use Rattle.wellfounded.specs.Lists.{join_below}
 use Rattle.wellfounded.proofs.Sums.{join_front}
-use Rattle.tables.specs.declared.Verdict.{Verdict}
-use Rattle.tables.specs.declared.Verdict.TheVariants.{Accepted, Refused}
+use Rattle.tables.specs.Faults.{Verdict, accepted, refused}
 use Rattle.tables.specs.declared.Fault.{Fault}
 use Rattle.tables.specs.Limits.{max_position}
 use Rattle.tables.specs.Faults.{fault_number, position_of}
@@ -21,16 +20,16 @@ use Rattle.page.specs.Pages.{lines_of, atom_lines}
 
 -- The verdict's line, by its parts.
 pub refused_position :
-    (v : Verdict) (fault : Fault) (position : ℕ) → v ≡ Refused fault position → position_of v ≤ max_position → position ≤ max_position
+    (v : Verdict) (fault : Fault) (position : ℕ) → v ≡ refused fault position → position_of v ≤ max_position → position ≤ max_position
 refused_position v fault position e h = rw e at h
 
 pub verdict_accepted :
-    {l m : List ℕ} {at end : ℕ} (v : Verdict) → v ≡ Accepted → Puts l at accepted_word end m → Puts l at (verdict_line v) end m
+    {l m : List ℕ} {at end : ℕ} (v : Verdict) → v ≡ accepted → Puts l at accepted_word end m → Puts l at (verdict_line v) end m
 unfolding verdict_line
 verdict_accepted v e p = rw e p
 
 pub verdict_refused :
-    {l m r s t : List ℕ} {at begun numbered placed end : ℕ} (v : Verdict) (fault : Fault) (position number : ℕ) → v ≡ Refused fault position →
+    {l m r s t : List ℕ} {at begun numbered placed end : ℕ} (v : Verdict) (fault : Fault) (position number : ℕ) → v ≡ refused fault position →
     number ≡ fault_number fault → Puts l at refused_word begun m → Puts m begun (decimal number) numbered r →
     Puts r numbered (space ∷ decimal position) placed s → Puts s placed line_close end t → Puts l at (verdict_line v) end t
 unfolding verdict_line

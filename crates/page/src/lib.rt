@@ -37,11 +37,11 @@ fn put_verdict(page: &mut [u8], at: usize, verdict: Verdict) -> usize
     ensures { Puts page.old at (verdict_line verdict) result page.new }
 {
     match verdict {
-        Verdict::Accepted => put(page, at, b"(accepted)\n"),
-        Verdict::Refused(fault, position) => {
+        Ok(()) => put(page, at, b"(accepted)\n"),
+        Err(refusal) => {
             let begun = put(page, at, b"(refused ");
-            let numbered = put_decimal(page, begun, fault_number(fault));
-            let placed = put_spaced(page, numbered, position);
+            let numbered = put_decimal(page, begun, fault_number(refusal.fault));
+            let placed = put_spaced(page, numbered, refusal.position);
             put(page, placed, b")\n")
         }
     }
@@ -77,9 +77,8 @@ fn put_lines(page: &mut [u8], at: usize, values: &[u8], levels: &[u16], atoms: &
     ensures { Puts page.old at (lines_of values.now levels.now atoms.now) result page.new }
 {
     let mut next = at;
-    let mut place = 0;
-    while place < atoms.len() {
-        let atom = atoms[place] as usize;
+    for atom in atoms {
+        let atom = *atom as usize;
         next = put_atom(
             page,
             next,
@@ -87,7 +86,6 @@ fn put_lines(page: &mut [u8], at: usize, values: &[u8], levels: &[u16], atoms: &
             values[atom] as usize,
             levels[atom] as usize,
         );
-        place += 1;
     }
     next
 }
@@ -125,8 +123,8 @@ fn put_atoms(page: &mut [u8], at: usize, values: &[u8], levels: &[u16], rounds: 
         at,
         values,
         levels,
-        &mut slots[0..used],
-        &mut atoms[0..count],
+        &mut slots[..used],
+        &mut atoms[..count],
     )
 }
 

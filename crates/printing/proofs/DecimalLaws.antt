@@ -13,10 +13,11 @@ use borrow.Author.Tests.{ltb-true, ltb-false}
 use Rattle.wellfounded.proofs.Tests.{decided}
 use Rattle.format.specs.Forms.{decimal}
 use Rattle.format.proofs.Decimals.{decimal_digit, decimal_snoc}
+use Rattle.printing.specs.internal.Putting.{Puts}
 use Rattle.printing.proofs.PutLaws.{sets_append, sets_set}
 
 -- The last digit, and what stands before it.
-pub decimal_last : (n : ℕ) → 10 ≤ n → decimal n ≡ decimal (n / 10) ++ ((48 + n % 10) ∷ [])
+decimal_last : (n : ℕ) → 10 ≤ n → decimal n ≡ decimal (n / 10) ++ ((48 + n % 10) ∷ [])
 decimal_last n h =
     let whole : n / 10 * 10 + n % 10 ≡ n = omega arith in
     sym (ap decimal whole) ∙ decimal_snoc (n / 10) (n % 10) (omega arith) (omega arith)
@@ -93,6 +94,13 @@ least_6 n h = decimal_deeper 5 10000 n least_5 (omega arith) h
 pub least_7 : (n : ℕ) → 1000000 ≤ n → 7 ≤ length (decimal n)
 least_7 n h = decimal_deeper 6 100000 n least_6 (omega arith) h
 
+-- Two digits are those of ten or more, and one is that of a number below it.
+pub digits_many : (n : ℕ) → 2 ≤ length (decimal n) → 10 ≤ n
+digits_many n h = grind (arith, length_1 n)
+
+pub digits_one : (n : ℕ) → length (decimal n) ≤ 1 → n < 10
+digits_one n h = grind (arith, least_2 n)
+
 -- While digits are put from the last on: those of the rest are still to come, the last of them at `place`.
 pub record Writing (before : List ℕ) (at number : ℕ) (place rest : ℕ) (present : List ℕ) : Type 0 where
   pub here : place + 1 ≡ at + length (decimal rest)
@@ -134,3 +142,7 @@ writing_end {l} {m} {r} {at} {number} {place} {rest} h e w =
     let one = length_digit rest h in
     let p : place ≡ at = omega arith in
     e ∙ ap (λ (k : ℕ). set m k (48 + rest)) p ∙ ap (λ (s : List ℕ). sets m at s) (sym (decimal_digit rest h)) ∙ w.meets
+
+-- A single digit is put by a store.
+pub puts_one : {l m : List ℕ} {at n : ℕ} → n < 10 → m ≡ set l at (48 + n) → Puts l at (decimal n) (at + 1) m
+puts_one {l} {m} {at} {n} h e = rw (decimal_digit n h) (record { answered = omega arith; stored = e })

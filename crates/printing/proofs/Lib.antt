@@ -1,8 +1,7 @@
--- What is put at an offset: `PutLaws` of bytes behind bytes, `DecimalLaws` and `SignedLaws` of numbers, `FewDigits` of those put digit by
--- digit, `Widths` of how many digits there are, `Joining` of parts put one after the other.
+-- What is put at an offset: `PutLaws` of bytes behind bytes, `DecimalLaws` and `SignedLaws` of numbers, `Widths` of how many digits there
+-- are, `Joining` of parts put one after the other.
 pub mod PutLaws
 pub mod DecimalLaws
-pub mod FewDigits
 pub mod Widths
 pub mod SignedLaws
 pub mod Joining

@@ -1,12 +1,16 @@
 -- Bytes put one after the other: runs of stores, one behind the other, are one run of the bytes of both.
 -- Assumes nothing.
-use Prim.Native.Nat.{ℕ, suc, ◌+◌, ◌≤◌, ◌<◌}
+use Prim.Native.Nat.{ℕ, suc, ◌+◌, ◌-◌, ◌≤◌}
 use mathlib.Core.Path.{◌≡◌, refl, sym, ap, ◌∙◌}
 use mathlib.Core.List.{List, [], ◌∷◌, ◌++◌, append_assoc}
 use native.Mathlib.Omega.{arith}
 use native.Mathlib.Nat.{add-zero}
-use lib.ListN.{length, get_or, set, take, length-append}
-use lib.Seq.{sets, length-sets, set_comm, length-take-le, take-length, take-suc}
+use lib.ListN.{length, set, length-append}
+use lib.Seq.{sets, length-sets, set_comm}
+use borrow.Rule.Slice.PartMut.{put_mid}
+use Rattle.std.proofs.lemmas.List.{take-append-drop}
+use Rattle.std.proofs.lemmas.List.Edits.{sets-eq}
+use Rattle.std.proofs.lemmas.Slice.{take-put_mid, drop-put_mid}
 use Rattle.printing.specs.internal.Putting.{Puts}
 
 -- The stores of a ++ b are those of a and, behind them, those of b.
@@ -49,28 +53,18 @@ puts_behind a b {c} p q = rw (append_assoc a b c) at (puts_then p q)
 pub puts_length : {l m : List ℕ} {at end : ℕ} {a : List ℕ} → Puts l at a end m → length m ≡ length l
 puts_length {l} {m} {at} {end} {a} p = ap length p.stored ∙ length-sets l at a
 
--- While bytes are being stored, those before `place` are.
-pub record Storing (before : List ℕ) (at : ℕ) (bytes : List ℕ) (place : ℕ) (present : List ℕ) : Type 0 where
-  pub within : place ≤ length bytes
-  pub stored : present ≡ sets before at (take place bytes)
-
-pub storing_start : (l : List ℕ) (at : ℕ) (bytes : List ℕ) → Storing l at bytes 0 l
-storing_start l at bytes = record { within = omega arith; stored = refl }
-
-pub storing_length : {l m : List ℕ} {at place : ℕ} {bytes : List ℕ} → Storing l at bytes place m → length m ≡ length l
-storing_length {l} {m} {at} {place} {bytes} s = ap length s.stored ∙ length-sets l at (take place bytes)
-
-pub storing_turn :
-    {l m r : List ℕ} {at place : ℕ} {bytes : List ℕ} → place < length bytes → r ≡ set m (at + place) (get_or bytes place 0) →
-    Storing l at bytes place m → Storing l at bytes (place + 1) r
-storing_turn {l} {m} {r} {at} {place} {bytes} h e s =
-    let next : place + 1 ≡ suc place = omega arith in
-    let long = length-take-le place bytes (omega arith) in
-    let behind = sets_append l at (take place bytes) (get_or bytes place 0 ∷ []) in
-    record { within = omega arith; stored = rw (next, take-suc bytes place 0 (omega arith), behind, long, e, s.stored) }
-
-pub storing_end : {l m : List ℕ} {at place : ℕ} {bytes : List ℕ} → length bytes ≤ place → Storing l at bytes place m → Puts l at bytes (at + place) m
-storing_end {l} {m} {at} {place} {bytes} h s =
-    let all : place ≡ length bytes = omega (arith, s.within) in
-    let e = rw all at s.stored in
-    record { answered = omega arith; stored = e ∙ ap (λ (b : List ℕ). sets l at b) (take-length bytes) }
+-- Bytes that are copied into the part of their length are stored there.
+pub puts_copied :
+    (l bytes copied : List ℕ) (at : ℕ) → at + length bytes ≤ length l → copied ≡ bytes →
+    Puts l at bytes (at + length bytes) (put_mid at (at + length bytes - at) l copied)
+puts_copied l bytes copied at room e =
+    let long = ap length e in
+    let all = put_mid at (at + length bytes - at) l copied in
+    let front = take-put_mid at (at + length bytes - at) l copied (at + length bytes) (omega arith) (omega arith) in
+    let rest = drop-put_mid at (at + length bytes - at) l copied (at + length bytes) (omega arith) (omega arith) (omega arith) in
+    record {
+      answered = refl;
+      stored =
+          sym (take-append-drop (at + length bytes) all)
+          ∙ rw (front, rest, e) (sym (sets-eq bytes l at room));
+    }

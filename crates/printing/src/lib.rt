@@ -1,4 +1,5 @@
-// Bytes and numbers, put into a buffer that has room for them. Each function puts its bytes at an offset and answers the offset after them.
+// Bytes and numbers, put into a buffer that has room for them. Each function puts its bytes at an offset and answers the offset after them. The buffer is
+// lent by C, and contracts say each byte of it, so no number is formatted by the library.
 #![tactic(auto)]
 
 ghost use Rattle.std.specs.Prelude.{◌≡◌, ◌+◌, ◌≤◌, ◌<◌, nat_abs, length};
@@ -10,12 +11,9 @@ pub fn put(buffer: &mut [u8], at: usize, bytes: &[u8]) -> usize
     requires { at + length bytes.now ≤ length buffer.old }
     ensures { Puts buffer.old at bytes.now result buffer.new }
 {
-    let mut place = 0;
-    while place < bytes.len() {
-        buffer[at + place] = bytes[place];
-        place += 1;
-    }
-    at + place
+    let end = at + bytes.len();
+    buffer[at..end].copy_from_slice(bytes);
+    end
 }
 
 // How many digits a number has, without a branch.
@@ -29,13 +27,9 @@ pub fn width(number: usize) -> usize
 
 // A number without its sign.
 fn magnitude(number: i32) -> usize
-    requires { nat_abs number ≤ max_printed }
     ensures { result ≡ nat_abs number }
 {
-    if number < 0 {
-        return (0 - number) as usize;
-    }
-    number as usize
+    number.unsigned_abs() as usize
 }
 
 // How many bytes a signed number has: a minus is one more.
@@ -46,37 +40,18 @@ pub fn signed_width(number: i32) -> usize
     (number < 0) as usize + width(magnitude(number))
 }
 
-// Puts a number of two digits.
-fn put_two(buffer: &mut [u8], at: usize, number: usize) -> usize
-    requires { (10 ≤ number) × (number < 100) × (at + 2 ≤ length buffer.old) }
+// Puts a number of as many digits as the constant says, from the last one on. As the compiler knows how many, it stores them without a loop.
+fn put_digits<const DIGITS: usize>(buffer: &mut [u8], at: usize, number: usize) -> usize
+    requires { (length (decimal number) ≡ DIGITS) × (at + DIGITS ≤ length buffer.old) }
     ensures { Puts buffer.old at (decimal number) result buffer.new }
 {
-    buffer[at] = 48 + (number / 10) as u8;
-    buffer[at + 1] = 48 + (number % 10) as u8;
-    at + 2
-}
-
-// Puts a number of three digits.
-fn put_three(buffer: &mut [u8], at: usize, number: usize) -> usize
-    requires { (100 ≤ number) × (number < 1000) × (at + 3 ≤ length buffer.old) }
-    ensures { Puts buffer.old at (decimal number) result buffer.new }
-{
-    buffer[at] = 48 + (number / 100) as u8;
-    buffer[at + 1] = 48 + (number / 10 % 10) as u8;
-    buffer[at + 2] = 48 + (number % 10) as u8;
-    at + 3
-}
-
-// Puts a number of four digits.
-fn put_four(buffer: &mut [u8], at: usize, number: usize) -> usize
-    requires { (1000 ≤ number) × (number < 10000) × (at + 4 ≤ length buffer.old) }
-    ensures { Puts buffer.old at (decimal number) result buffer.new }
-{
-    buffer[at] = 48 + (number / 1000) as u8;
-    buffer[at + 1] = 48 + (number / 100 % 10) as u8;
-    buffer[at + 2] = 48 + (number / 10 % 10) as u8;
-    buffer[at + 3] = 48 + (number % 10) as u8;
-    at + 4
+    let mut rest = number;
+    for place in (1..DIGITS).rev() {
+        buffer[at + place] = 48 + (rest % 10) as u8;
+        rest /= 10;
+    }
+    buffer[at] = 48 + rest as u8;
+    at + DIGITS
 }
 
 // Puts a number of any length, from the last digit on.
@@ -106,13 +81,13 @@ pub fn put_decimal(buffer: &mut [u8], at: usize, number: usize) -> usize
         return at + 1;
     }
     if number < 100 {
-        return put_two(buffer, at, number);
+        return put_digits::<2>(buffer, at, number);
     }
     if number < 1000 {
-        return put_three(buffer, at, number);
+        return put_digits::<3>(buffer, at, number);
     }
     if number < 10000 {
-        return put_four(buffer, at, number);
+        return put_digits::<4>(buffer, at, number);
     }
     put_long(buffer, at, number)
 }

@@ -1,12 +1,14 @@
 -- Laws of the loops that lower counts: over the entries of a literal, and over a part of the queue.
 -- Assumes nothing.
-use Prim.Native.Nat.{ℕ, ◌+◌, ◌*◌, ◌≤◌, ◌<◌}
+use Prim.Native.Nat.{ℕ, ◌+◌, ◌*◌, ◌-◌, ◌≤◌, ◌<◌}
 use mathlib.Core.Path.{◌≡◌, refl, ap, subst, ◌∙◌}
 use mathlib.Core.Bool.{Bool, true, false, cond}
 use mathlib.Core.List.{List}
+use native.Mathlib.Nat.{add-zero, add_assoc}
 use native.Mathlib.Omega.{arith}
 use lib.Dec.{eqb}
-use lib.ListN.{length, get_or}
+use lib.ListN.{length, get_or, take, drop}
+use lib.Seq.{get_or-take, get_or-drop}
 use borrow.Author.Tests.{eq-eqb}
 use Rattle.wellfounded.specs.Literals.{is_false, value_at}
 use Rattle.wellfounded.specs.internal.Tallies.{tally}
@@ -19,31 +21,43 @@ use Rattle.propagation.proofs.CountLaws.{propagated_none, propagated_both, stead
 
 -- ── The entries of a literal ──
 
+-- What a loop over `&entries[first..last]` reads.
+part_entry : (entries : List ℕ) (first last k : ℕ) → k < last - first → get_or (take (last - first) (drop first entries)) k 0 ≡ get_or entries (first + k) 0
+part_entry entries first last k l = get_or-take (last - first) (drop first entries) k 0 l ∙ get_or-drop first entries k 0
+
 module _ {rules entries counts values queue : List ℕ} {end first last : ℕ} (fit : EntriesFit rules entries counts first last) (s : Steady rules counts values queue end) where
-  pub rows_start : RowsLowered rules entries counts values queue end first first counts values queue end
-  rows_start = record { done = propagated_none rules counts values queue end s.settled; lost = λ row. refl }
+  pub rows_start : RowsLowered rules entries counts values queue end first (first + 0) counts values queue end
+  rows_start = rw add-zero (record { done = propagated_none rules counts values queue end s.settled; lost = λ row. refl })
 
-  module _ {i : ℕ} {counts' values' queue' : List ℕ} {end' : ℕ} (l : i < last) (so : RowsLowered rules entries counts values queue end first i counts' values' queue' end') where
-    -- The next row can be lowered,
-    pub rows_next : (get_or entries i 0 < rule_count rules) × (1 ≤ get_or counts' (get_or entries i 0) 0) × Steady rules counts' values' queue' end'
-    rows_next =
-        let row = get_or entries i 0 in
-        let known : get_or entries i 0 < rule_count rules = fit.rows i (omega (arith, fit.high)) in
-        let one : tally entries (i + 1) row ≡ tally entries i row + 1 = tally_more entries i row ∙ rw (itself row) refl in
-        (known, omega (arith, one, so.lost row, fit.enough row known, tally_below entries (i + 1) last row (omega arith)), steady_later s so.done)
-      where
-        itself : (x : ℕ) → eqb x x ≡ true
-        itself x = eq-eqb x x refl
+  module _
+      {k : ℕ} {counts' values' queue' : List ℕ} {end' : ℕ} (l : k < last - first)
+      (so : RowsLowered rules entries counts values queue end first (first + k) counts' values' queue' end')
+    where
+      abbrev entry : ℕ
+      entry = get_or (take (last - first) (drop first entries)) k 0
 
-    -- and so they go on.
-    pub rows_turn :
-        {counts'' values'' queue'' : List ℕ} {end'' : ℕ} → RowLowered rules counts' values' queue' end' (get_or entries i 0) counts'' values'' queue'' end'' →
-        RowsLowered rules entries counts values queue end first (i + 1) counts'' values'' queue'' end''
-    rows_turn {counts''} one =
-        record {
-          done = propagated_both so.done one.done;
-          lost = λ row. omega (arith, one.lost row, so.lost row, tally_more entries i row);
-        }
+      entry_more : (row : ℕ) → tally entries (first + k + 1) row ≡ tally entries (first + k) row + cond (eqb entry row) 1 0
+      entry_more row = rw (part_entry entries first last k l) (tally_more entries (first + k) row)
+
+      -- The next row can be lowered,
+      pub rows_next : (entry < rule_count rules) × (1 ≤ get_or counts' entry 0) × Steady rules counts' values' queue' end'
+      rows_next =
+          let known : entry < rule_count rules = rw (part_entry entries first last k l) (fit.rows (first + k) (omega (arith, fit.high))) in
+          let one : tally entries (first + k + 1) entry ≡ tally entries (first + k) entry + 1 = entry_more entry ∙ rw (itself entry) refl in
+          (known, omega (arith, one, so.lost entry, fit.enough entry known, tally_below entries (first + k + 1) last entry (omega arith)), steady_later s so.done)
+        where
+          itself : (x : ℕ) → eqb x x ≡ true
+          itself x = eq-eqb x x refl
+
+      -- and so they go on.
+      pub rows_turn :
+          {counts'' values'' queue'' : List ℕ} {end'' : ℕ} → RowLowered rules counts' values' queue' end' entry counts'' values'' queue'' end'' →
+          RowsLowered rules entries counts values queue end first (first + (k + 1)) counts'' values'' queue'' end''
+      rows_turn {counts''} one =
+          rw (← add_assoc) (record {
+            done = propagated_both so.done one.done;
+            lost = λ row. omega (arith, one.lost row, so.lost row, entry_more row);
+          })
 
 pub rows_end :
     {rules entries counts values queue : List ℕ} {end first last : ℕ} {i : ℕ} {counts' values' queue' : List ℕ} {end' : ℕ} → last ≤ i → i ≤ last →
@@ -97,23 +111,21 @@ module _ {rules starts entries counts values queue : List ℕ} {from end : ℕ} 
         let long = values_long_lem so.done in
         (rw (so.done.queued.before i l, long) (p.known i l).0, rw long p.steady.small)
 
-    abbrev pub key : ℕ
+    abbrev key : ℕ
     key = true_literal values (get_or queue i 0)
 
-    pub part_key : true_literal values' (get_or queue' i 0) ≡ key
+    part_key : true_literal values' (get_or queue' i 0) ≡ key
     unfolding true_literal
     part_key =
         rw (so.done.queued.before i l)
         (ap (λ (v : ℕ). 2 * get_or queue i 0 + cond (is_false v) 1 0)
         (ap (λ (v : List ℕ). value_at v (get_or queue i 0)) so.done.decides ∙ decide_keeps 1 (ready_by rules counts') values (get_or queue i 0) (p.known i l).1))
 
-    -- its true literal has starts,
-    pub part_starts : key + 1 < length starts
-    part_starts = let below = literal_below values (get_or queue i 0) (length values) (p.known i l).0 in omega (arith, below, p.leads.starts_long)
+    key_starts : key + 1 < length starts
+    key_starts = let below = literal_below values (get_or queue i 0) (length values) (p.known i l).0 in omega (arith, below, p.leads.starts_long)
 
-    -- and its entries can be gone through.
-    pub part_fits : EntriesFit rules entries counts' (get_or starts key 0) (get_or starts (key + 1) 0) × Steady rules counts' values' queue' end'
-    part_fits = (
+    key_fits : EntriesFit rules entries counts' (get_or starts key 0) (get_or starts (key + 1) 0) × Steady rules counts' values' queue' end'
+    key_fits = (
       record {
         low = p.leads.rises key below;
         high = p.leads.within (key + 1) (omega (arith, below));
@@ -126,22 +138,36 @@ module _ {rules starts entries counts values queue : List ℕ} {from end : ℕ} 
         below : key < 2 * length values
         below = literal_below values (get_or queue i 0) (length values) (p.known i l).0
 
-    pub part_turn :
-        {counts'' values'' queue'' : List ℕ} {end'' : ℕ} →
-        RowsLowered rules entries counts' values' queue' end' (get_or starts key 0) (get_or starts (key + 1) 0) counts'' values'' queue'' end'' →
-        PartPropagated rules starts entries counts values queue from (i + 1) end counts'' values'' queue'' end''
-    part_turn {counts''} one =
-        record {
-          done = propagated_both so.done one.done;
-          lost = λ row b.
-              omega (
-                arith,
-                one.lost row,
-                so.lost row b,
-                under_from p.leads key row (literal_below values (get_or queue i 0) (length values) (p.known i l).0),
-                taken_more starts entries values queue i row,
-              );
-        }
+    module _ {literal : ℕ} (is : literal ≡ true_literal values' (get_or queue' i 0)) where
+      -- its true literal has starts,
+      pub part_starts : literal + 1 < length starts
+      part_starts = rw (is ∙ part_key) key_starts
+
+      pub part_small : literal + 1 ≤ 131071
+      part_small = omega (arith, part_starts, p.leads.starts_long, p.steady.small)
+
+      -- its entries can be gone through,
+      pub part_fits : EntriesFit rules entries counts' (get_or starts literal 0) (get_or starts (literal + 1) 0) × Steady rules counts' values' queue' end'
+      part_fits = rw (is ∙ part_key) key_fits
+
+      -- and then the atom is propagated.
+      pub part_turn :
+          {counts'' values'' queue'' : List ℕ} {end'' : ℕ} →
+          RowsLowered rules entries counts' values' queue' end' (get_or starts literal 0) (get_or starts (literal + 1) 0) counts'' values'' queue'' end'' →
+          PartPropagated rules starts entries counts values queue from (i + 1) end counts'' values'' queue'' end''
+      part_turn {counts''} {values''} {queue''} {end''} lowered =
+          let one : RowsLowered rules entries counts' values' queue' end' (get_or starts key 0) (get_or starts (key + 1) 0) counts'' values'' queue'' end'' = rw (is ∙ part_key) at lowered in
+          record {
+            done = propagated_both so.done one.done;
+            lost = λ row b.
+                omega (
+                  arith,
+                  one.lost row,
+                  so.lost row b,
+                  under_from p.leads key row (literal_below values (get_or queue i 0) (length values) (p.known i l).0),
+                  taken_more starts entries values queue i row,
+                );
+          }
 
 pub part_end :
     {rules starts entries counts values queue : List ℕ} {from end : ℕ} {i : ℕ} {counts' values' queue' : List ℕ} {end' : ℕ} → end ≤ i → i ≤ end →

@@ -8,16 +8,17 @@ use mathlib.Core.List.{List}
 use native.Mathlib.Numerals.{add-one}
 use native.Mathlib.Omega.{arith}
 use lib.Dec.{eqb}
-use lib.ListN.{length, get_or, set, take, drop, length-set, length-drop}
-use lib.Seq.{get_or-set_same, get_or-set_other, get_or-drop}
+use mir.Val.{bool_byte}
+use lib.ListN.{length, get_or, set, take, drop, length-set, length-take, length-drop}
+use lib.Seq.{get_or-set_same, get_or-set_other, get_or-take, get_or-drop}
 use borrow.Author.Tests.{eqb-true, eq-eqb, ne_eqb, not-true}
+use Rattle.std.specs.List.{sum_by}
 use Rattle.wellfounded.specs.Lists.{any_below, sum_below}
 use Rattle.wellfounded.specs.Literals.{is_true, is_false, is_held, value_at, atom_of, is_negated}
 use Rattle.wellfounded.proofs.Tests.{clash, both, first, second, either, or_left, or_right, same_test}
-use Rattle.wellfounded.proofs.Lists.{le_or_lt, any_below_use, any_below_make}
-use Rattle.wellfounded.proofs.Sums.{sum_more, sum_same}
-use Rattle.wellfounded.proofs.Scan.{part_is}
-use Rattle.wellfounded.proofs.Literals.{true_test, false_test, value_at_lem}
+use Rattle.wellfounded.proofs.Lists.{get_d_default, le_or_lt, any_below_use, any_below_make}
+use Rattle.wellfounded.proofs.Sums.{sum_same, sum_le, sum_ones, sum_by_places}
+use Rattle.wellfounded.proofs.Literals.{value_at_lem}
 use Rattle.tables.specs.Rows.{rule_count, rule_head, rule_start, rule_size}
 use Rattle.tables.specs.internal.Fields.{Field}
 use Rattle.tables.specs.internal.Scans.{RulesScannable}
@@ -28,28 +29,10 @@ use Rattle.propagation.proofs.QueueLaws.{undecided_most, decide_length, decide_k
 
 -- ── An atom's literals ──
 
-pub positive_true : (value : ℕ) → value ≡ 1 → ◌≡◌ {A = ℕ} 0 (cond (not (is_true value)) 1 0)
-positive_true value e = rw (true_test value, eq-eqb value 1 e) refl
-
-pub positive_untrue : (value : ℕ) → (value ≡ 1 → ⊥) → ◌≡◌ {A = ℕ} 1 (cond (not (is_true value)) 1 0)
-positive_untrue value e = rw (true_test value, ne_eqb value 1 e) refl
-
-pub negated_zero : (founding : Bool) (value : ℕ) → value ≡ 0 → ◌≡◌ {A = ℕ} 0 (cond (cond founding (is_true value) (not (is_false value))) 1 0)
-unfolding is_true is_false
-negated_zero true value e = rw e refl
-negated_zero false value e = rw e refl
-
-pub negated_one : (founding : Bool) (value : ℕ) → value ≡ 1 → ◌≡◌ {A = ℕ} 1 (cond (cond founding (is_true value) (not (is_false value))) 1 0)
-unfolding is_true is_false
-negated_one true value e = rw e refl
-negated_one false value e = rw e refl
-
-module _ (founding : Bool) (value : ℕ) (some : value ≡ 0 → ⊥) (other : value ≡ 1 → ⊥) where
-  pub negated_founding : founding ≡ true → ◌≡◌ {A = ℕ} 0 (cond (cond founding (is_true value) (not (is_false value))) 1 0)
-  negated_founding e = rw (e, true_test value, ne_eqb value 1 other) refl
-
-  pub negated_waiting : founding ≡ false → ◌≡◌ {A = ℕ} 1 (cond (cond founding (is_true value) (not (is_false value))) 1 0)
-  negated_waiting e = rw (e, false_test value, ne_eqb value 0 some) refl
+-- A truth value as a number.
+pub as_number : (b : Bool) → bool_byte b ≡ cond b 1 0
+as_number true = refl
+as_number false = refl
 
 -- ── The table ──
 
@@ -151,22 +134,15 @@ table_startable {founding} {rules} {literals} {table} {counts} {values} {queue} 
 
 -- ── A body ──
 
--- The literals passed are in the total, each as 1 at most.
-pub record Adding (f : ℕ → ℕ) (size place total : ℕ) : Type 0 where
-  pub low : place ≤ size
-  pub is : total ≡ sum_below place f
-  pub small : total ≤ place
+-- What the library's iterator hands out of a body has its entry in the table,
+pub body_entry : {body table : List ℕ} → Summable body (length body) table → {k l : ℕ} → k < length body → l ≡ get_or body k l → l < length table
+body_entry {body} s {k} {l} within is = rw (is ∙ get_d_default body k l 0 within) (s.known k within)
 
-pub adding_start : (f : ℕ → ℕ) (size : ℕ) → Adding f size 0 0
-unfolding sum_below
-adding_start f size = record { low = omega arith; is = refl; small = omega arith }
-
-pub adding_turn : (f : ℕ → ℕ) (size place total : ℕ) → place < size → f place ≤ 1 → Adding f size place total → Adding f size (place + 1) (total + f place)
-adding_turn f size place total l one a =
-    record { low = omega arith; is = omega (arith, sum_more place f, a.is); small = omega (arith, a.small) }
-
-pub adding_end : (f : ℕ → ℕ) (size place total : ℕ) → size ≤ place → Adding f size place total → total ≡ sum_below size f
-adding_end f size place total l a = let e : place ≡ size = omega (arith, a.low) in a.is ∙ ap (λ (n : ℕ). sum_below n f) e
+-- and the sum of these, each 1 at most, fits a count.
+pub body_few : {body table : List ℕ} → Summable body (length body) table → sum_by (λ l. get_or table l 0) body < 65536
+body_few {body} {table} s =
+    rw sum_by_places
+    (omega (arith, sum_le (length body) (λ place. get_or table (get_or body place 0) 0) (λ place. 1) s.ones, sum_ones (length body), s.few))
 
 -- ── A row ──
 
@@ -174,28 +150,24 @@ module _
     {rules literals table counts values queue : List ℕ} {end row start size : ℕ} (s : Startable rules literals table counts values queue end) (l : row < rule_count rules)
     (begins : Field 65536 (rule_start rules row) start) (many : Field 65536 (rule_size rules row) size)
   where
-    pub row_begins : start ≤ length literals
-    row_begins = omega (arith, s.within row l, begins.is)
+    row_within : start + size ≤ length literals
+    row_within = omega (arith, s.within row l, begins.is, many.is)
 
-    pub row_summable : Summable (take (length literals - start) (drop start literals)) size table
-    row_summable =
-        rw (part_is literals start) (record {
-          within = rw length-drop (omega (arith, s.within row l, begins.is, many.is));
-          few = many.small;
-          known = λ place b. rw get_or-drop (s.known (start + place) (within place b));
-          ones = λ place b. rw get_or-drop (s.ones (start + place) (within place b));
-        })
-      where
-        within : (place : ℕ) → place < length (drop start literals) → start + place < length literals
-        within place b = let c : place < length literals - start = rw length-drop at b in omega arith
+    abbrev part : List ℕ
+    part = take (start + size - start) (drop start literals)
 
-    pub row_lacks :
-        {lacks : ℕ} → lacks ≡ sum_below size (λ place. get_or table (get_or (take (length literals - start) (drop start literals)) place 0) 0) →
-        lacks ≡ lacking_in rules literals table row
+    part_long : length part ≡ size
+    part_long = rw (length-take, length-drop) (omega (arith, row_within))
+
+    part_entry : (place : ℕ) → place < size → get_or part place 0 ≡ get_or literals (start + place) 0
+    part_entry place b = get_or-take (start + size - start) (drop start literals) place 0 (omega arith) ∙ get_or-drop start literals place 0
+
+    pub row_lacks : {lacks : ℕ} → lacks ≡ sum_below (length part) (λ place. get_or table (get_or part place 0) 0) → lacks ≡ lacking_in rules literals table row
     unfolding lacking_in
     row_lacks is =
-        rw (part_is literals start) at is
-        ∙ rw (many.is, begins.is) (sum_same (rule_size rules row) _ _ (λ place b. ap (λ (x : ℕ). get_or table x 0) (get_or-drop (rule_start rules row) literals place 0)))
+        is ∙ ap (λ (n : ℕ). sum_below n (λ place. get_or table (get_or part place 0) 0)) part_long
+        ∙ sum_same size _ _ (λ place b. ap (λ (x : ℕ). get_or table x 0) (part_entry place b))
+        ∙ rw (many.is, begins.is) refl
 
     -- Something is lacking;
     module _ {lacks : ℕ} (is : lacks ≡ lacking_in rules literals table row) where
@@ -213,9 +185,6 @@ module _
           RowCounted rules literals table counts values queue end row (set counts row lacks) values' queue' end'
       row_ready none pushes =
           record { counted = rw is refl; pushed = rw (eq-eqb (lacking_in rules literals table row) 0 (sym is ∙ none)) pushes }
-
-    pub row_fits : Pushable (rule_head rules row) values queue end
-    row_fits = record { below = s.heads row l; small = s.small; room = s.room }
 
 -- ── All rows ──
 

@@ -44,10 +44,8 @@ fn lower_rows(
         counts.new values.new queue.new result }
 {
     let mut behind = end;
-    let mut i = first;
-    while i < last {
-        behind = lower(entries[i] as usize, rules, counts, values, queue, behind);
-        i += 1;
+    for row in &entries[first..last] {
+        behind = lower(*row as usize, rules, counts, values, queue, behind);
     }
     behind
 }
@@ -81,13 +79,11 @@ pub fn propagate(
         from end end counts.new values.new queue.new result }
 {
     let mut behind = end;
-    let mut i = from;
-    while i < end {
+    for i in from..end {
         let literal = true_literal(queue[i] as usize, values);
         let first = starts[literal] as usize;
         let last = starts[literal + 1] as usize;
         behind = lower_rows(first, last, entries, rules, counts, values, queue, behind);
-        i += 1;
     }
     behind
 }

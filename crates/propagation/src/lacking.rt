@@ -13,20 +13,14 @@ use tables::rows::{rule_count, rule_head, rule_size, rule_start};
 fn positive_lacks(value: u8) -> u8
     ensures { result ≡ cond (not (is_true value)) 1 0 }
 {
-    if value == 1 { 0 } else { 1 }
+    (value != 1) as u8
 }
 
 // Whether the negated literal of an atom is lacking, as 1 or 0: it is not true, or where atoms are founded it is false.
 fn negated_lacks(founding: bool, value: u8) -> u8
     ensures { result ≡ cond (cond founding (is_true value) (not (is_false value))) 1 0 }
 {
-    if value == 0 {
-        return 0;
-    }
-    if value == 1 {
-        return 1;
-    }
-    if founding { 0 } else { 1 }
+    (if founding { value == 1 } else { value != 0 }) as u8
 }
 
 // Fills the table for all literals of the atoms.
@@ -34,27 +28,20 @@ pub fn lack_literals(founding: bool, values: &[u8], table: &mut [u8])
     requires { 2 * length values.now ≤ length table.old }
     ensures { TellsLacking founding values.now table.new }
 {
-    let mut atom = 0;
-    while atom < values.len() {
-        let value = values[atom];
-        table[2 * atom] = positive_lacks(value);
-        table[2 * atom + 1] = negated_lacks(founding, value);
-        atom += 1;
+    for (atom, value) in values.iter().enumerate() {
+        table[2 * atom] = positive_lacks(*value);
+        table[2 * atom + 1] = negated_lacks(founding, *value);
     }
 }
 
-// How many of the first `size` literals are lacking.
-fn body_lacks(literals: &[u16], size: usize, table: &[u8]) -> u16
-    requires { Summable literals.now size table.now }
-    ensures { result ≡ sum_below size (λ place. get_or table.now (get_or literals.now place 0) 0) }
+// How many literals of a body are lacking.
+fn body_lacks(body: &[u16], table: &[u8]) -> u16
+    requires { Summable body.now (length body.now) table.now }
+    ensures { result ≡ sum_below (length body.now) (λ place. get_or table.now (get_or body.now place 0) 0) }
 {
-    let mut total = 0;
-    let mut place = 0;
-    while place < size {
-        total += table[literals[place] as usize] as u16;
-        place += 1;
-    }
-    total
+    body.iter()
+        .map(|literal| table[*literal as usize] as u16)
+        .sum()
 }
 
 // Counts what a row lacks. If that is nothing, the row makes its head true.
@@ -74,7 +61,7 @@ fn count_row(
 {
     let start = rule_start(rules, row);
     let size = rule_size(rules, row);
-    let lacks = body_lacks(&literals[start..], size, table);
+    let lacks = body_lacks(&literals[start..start + size], table);
     counts[row] = lacks;
     if lacks != 0 {
         return end;
@@ -96,12 +83,9 @@ pub fn count_lacks(
     ensures { Started rules.now literals.now table.now counts.old values.old queue.old
         counts.new values.new queue.new result }
 {
-    let rows = rule_count(rules);
     let mut end = 0;
-    let mut row = 0;
-    while row < rows {
+    for row in 0..rule_count(rules) {
         end = count_row(row, rules, literals, table, counts, values, queue, end);
-        row += 1;
     }
     end
 }

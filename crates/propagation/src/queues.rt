@@ -1,4 +1,4 @@
-// Atoms that are decided one after the other, and queued in this order.
+// Atoms that are decided one after the other, and queued in this order. The queue is the lent work, so its end stands beside it.
 ghost use Rattle.std.specs.Prelude.{not};
 ghost use Rattle.wellfounded.specs.Literals.{is_held, value_at};
 ghost use Rattle.propagation.specs.internal.Queues.{Pushable, Pushes};

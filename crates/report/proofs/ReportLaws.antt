@@ -9,7 +9,7 @@ use lib.Dec.{leb}
 use lib.ListN.{length, take}
 use lib.Seq.{sets}
 use borrow.Author.Tests.{le-leb, lt-leb}
-use Rattle.tables.specs.declared.Verdict.{Verdict}
+use Rattle.tables.specs.Faults.{Verdict}
 use Rattle.tables.specs.Faults.{position_of}
 use Rattle.tables.specs.Limits.{max_atoms, max_position}
 use Rattle.forms.specs.Contents.{over}

@@ -13,14 +13,11 @@ use tables::sizes::MAX_ATOMS;
 fn is_open(state: StateForm) -> bool
     ensures { result ≡ is_open_state state }
 {
-    match state {
-        StateForm::OpenState => true,
-        _ => false,
-    }
+    matches!(state, StateForm::OpenState)
 }
 
 // Writes the report of a text at the front of the page, and answers its length. A page shorter than `PAGE_SIZE` is left as it
-// is, and the length is answered as 0.
+// is, and the length is answered as 0: no Option, as C is told the number.
 pub fn report(text: &[u8], page: &mut [u8]) -> usize
     ensures { Reported text.now page.old result page.new }
 {

@@ -42,11 +42,8 @@ pub fn mark_firing(rules: &[u16], literals: &[u16], values: &[u8], firing: &mut 
     ensures { firing.new ≡ mark_where (fires_by rules.now literals.now values.now (rule_count rules.now))
         firing.old }
 {
-    let rows = rule_count(rules);
-    let mut row = 0;
-    while row < rows {
+    for row in 0..rule_count(rules) {
         fire_row(rules, row, literals, values, firing);
-        row += 1;
     }
 }
 
@@ -107,12 +104,10 @@ pub fn decide(
 {
     let mut decided = 0;
     let mut renewed = false;
-    let mut atom = 0;
-    while atom < values.len() {
+    for atom in 0..values.len() {
         let changed = decide_atom(atom, level, founded, negated, firing, values, levels);
         decided += changed.decided;
         renewed = renewed | changed.renewed;
-        atom += 1;
     }
     Changed { decided, renewed }
 }

@@ -1,7 +1,7 @@
 -- The forms of tables without a fault and of a claim are a book that tables hold which have the room.
 -- Assumes nothing.
 use Prim.Native.Nat.{ℕ, ◌+◌, ◌*◌, ◌%◌, ◌≤◌, ◌<◌}
-use mathlib.Core.Path.{◌≡◌, refl, sym, ◌∙◌}
+use mathlib.Core.Path.{◌≡◌, refl, sym, ap, ◌∙◌}
 use mathlib.Core.Bool.{true}
 use mathlib.Core.List.{List, [], ◌∷◌, map, Memᴰ}
 use native.Mathlib.Omega.{arith}
@@ -26,7 +26,8 @@ use Rattle.format.specs.Views.{view_of, of_kind, same_kind, kind_number}
 use Rattle.judging.specs.declared.reached.Reached.{Reached}
 use Rattle.judging.specs.declared.reached.Space.{Space}
 use Rattle.judging.specs.LentTables.{Table, room_in}
-use Rattle.judging.specs.States.{nothing_yet, claim_stood, start, groups_reached, count_in, values_counted, levels_counted}
+use Rattle.judging.specs.declared.reached.Phase.TheVariants.{NothingYet, ClaimStood}
+use Rattle.judging.specs.States.{rank, start, groups_reached, count_in, values_counted, levels_counted}
 use Rattle.judging.specs.Judging.{literal_within, term_within, pair_within, bound_within, atom_bound, numbers_within, rises_from, parts_in_order, levels_for, levelled}
 use Rattle.judging.specs.Books.{after_all, is_state, InSequence, IsBook}
 use Rattle.judging.proofs.TableLaws.{each_table}
@@ -224,10 +225,10 @@ module _ (t : Tables) (none : (test : Test) → Memᴰ test (table_tests t) → 
         all_rows (numbers_within s) load_form_of (load_count t.loads) (load_at t.loads t.load_literals t.minutes) (λ row l.
         load_within s (load_at t.loads t.load_literals t.minutes row) (sound_load_rows t none row l).low (sound_load_rows t none row l).high (terms_within row l))
 
-    module _ (values levels : List ℕ) (size : s.size ≡ t.atoms) (stood : s.phase ≡ claim_stood) where
+    module _ (values levels : List ℕ) (size : s.size ≡ t.atoms) (stood : s.phase ≡ ClaimStood) where
       bound_size : atom_bound s ≡ t.atoms
       unfolding atom_bound
-      bound_size = rw (ne_eqb s.phase nothing_yet (λ e. omega arith)) size
+      bound_size = rw (ne_eqb (rank s.phase) (rank NothingYet) (λ e. omega (arith, ap rank stood))) size
 
       pairs_within : Writable values levels → all pair_within (pairs_of t.atoms 1 values levels) ≡ true
       unfolding pairs_of pair_within
@@ -279,8 +280,8 @@ module _ (t : Tables) (none : (test : Test) → Memᴰ test (table_tests t) → 
   unfolding count_in taken_in
   taken_counted s k =
       let sizes = sound_sizes t none in
-      let values : values_counted s ≡ t.atoms = values_told s (omega (arith, k.stood)) ∙ k.size in
-      let levels : levels_counted s ≡ t.atoms = levels_told s (omega (arith, k.stood)) ∙ sym (one_level s) ∙ k.size in
+      let values : values_counted s ≡ t.atoms = values_told s (omega (arith, ap rank k.stood)) ∙ k.size in
+      let levels : levels_counted s ≡ t.atoms = levels_told s (omega (arith, ap rank k.stood)) ∙ sym (one_level s) ∙ k.size in
       each_table (λ table. count_in s table ≡ taken_in t table) (k.rules ∙ whole_rules_lem t.rules sizes.whole_rules) k.literals
       (k.clauses ∙ whole_clauses_lem t.clauses sizes.whole_clauses) (k.loads ∙ whole_loads_lem t.loads sizes.whole_loads) k.terms k.terms
       values values levels

@@ -12,7 +12,8 @@ use Rattle.tables.specs.Sound.{Tables}
 use Rattle.format.specs.Forms.{PairText, Form, atoms_form, claim_form}
 use Rattle.format.specs.Views.{view_of, same_kind, kind_number}
 use Rattle.judging.specs.declared.reached.Reached.{Reached}
-use Rattle.judging.specs.States.{claim_stood, start, phase_after, advanced, after}
+use Rattle.judging.specs.declared.reached.Phase.TheVariants.{ClaimStood}
+use Rattle.judging.specs.States.{start, phase_after, advanced, after}
 use Rattle.judging.specs.Books.{after_all}
 use Rattle.writing.specs.BookForms.{literal_text, term_text, rule_form_of, clause_form_of, load_form_of, marked_atoms, defined_forms, pairs_of, book_forms}
 use Rattle.writing.specs.Writing.{literals_by_row, terms_by_row}
@@ -103,7 +104,7 @@ defined_add s (a ∷ atoms) =
 
 -- The state at the end.
 pub record Counted (t : Tables) (s : Reached) : Type 0 where
-  pub stood : s.phase ≡ claim_stood
+  pub stood : s.phase ≡ ClaimStood
   pub size : s.size ≡ t.atoms
   pub rules : s.rules ≡ rule_count t.rules * rule_width
   pub literals : s.literals ≡ literals_by_row t.rules t.clauses
@@ -128,7 +129,7 @@ later_parts s d r c l x =
     after_both s d _ ∙ (after_both (after_all s d) r _ ∙ (after_both (after_all (after_all s d) r) c _ ∙ after_both (after_all (after_all (after_all s d) r) c) l x))
 
 -- A claim adds to no table that grows.
-claim_adds : (s : Reached) (pairs : List PairText) → ((after_all s (claim_form pairs ∷ [])).phase ≡ claim_stood) × Adds s (after_all s (claim_form pairs ∷ [])) 0 0 0 0 0
+claim_adds : (s : Reached) (pairs : List PairText) → ((after_all s (claim_form pairs ∷ [])).phase ≡ ClaimStood) × Adds s (after_all s (claim_form pairs ∷ [])) 0 0 0 0 0
 unfolding after_all after advanced view_of phase_after same_kind kind_number
 claim_adds s pairs = (
   refl,
@@ -144,7 +145,7 @@ claim_adds s pairs = (
 
 later_add :
     (s : Reached) (named : List ℕ) (rs : List Rule) (cs : List (List ℕ)) (ls : List Load) (pairs : List PairText) →
-    ((after_all s (later_forms named rs cs ls pairs)).phase ≡ claim_stood)
+    ((after_all s (later_forms named rs cs ls pairs)).phase ≡ ClaimStood)
     × Adds s (after_all s (later_forms named rs cs ls pairs)) (length rs * 3)
     (total (λ (r : Rule). length r.body) rs + total length cs) (length cs * 2) (length ls * 4) (total (λ (l : Load). length l.terms) ls)
 later_add s named rs cs ls pairs =

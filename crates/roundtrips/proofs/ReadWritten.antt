@@ -23,7 +23,8 @@ use Rattle.judging.specs.declared.reached.Reached.{Reached}
 use Rattle.items.specs.Items.{level_columns}
 use Rattle.items.proofs.PartLaws.{all_snoc}
 use Rattle.judging.specs.LentTables.{Rules, Literals, Clauses, Loads, LoadLiterals, Minutes, Marks, Values, Levels}
-use Rattle.judging.specs.States.{nothing_yet, claim_stood, open_stood, start, phase_after, advanced, after, groups_reached}
+use Rattle.judging.specs.declared.reached.Phase.TheVariants.{NothingYet, OpenStood, ClaimStood}
+use Rattle.judging.specs.States.{rank, start, phase_after, advanced, after, groups_reached}
 use Rattle.judging.specs.Judging.{atom_bound, numbers_within, rises_from, parts_in_order, levels_for, levelled}
 use Rattle.judging.specs.Books.{after_all, is_state, InSequence}
 use Rattle.judging.proofs.LimitLaws.{atoms_limit}
@@ -149,11 +150,14 @@ module _ (fs : List Form) (q : InSequence fs) where
   last_phase =
       ap (λ (gs : List Form). (after_all start gs).phase) (state_last fs q) ∙ ap (λ (s : Reached). s.phase) (after_more start (before_state fs q) q.state)
 
-  claims : (after_all start fs).phase ≡ claim_stood → of_kind FormKind.Claim q.state ≡ true
+  claims : (after_all start fs).phase ≡ ClaimStood → of_kind FormKind.Claim q.state ≡ true
   unfolding is_state phase_after
   claims stood =
       ⊎_elim
-      (λ o. absurd (let e = of_kind_lem FormKind.Open q.state o in let p : phase_after (kind_in q.state) ≡ open_stood = rw e in omega (arith, last_phase, stood)))
+      (λ o.
+      let e = of_kind_lem FormKind.Open q.state o in
+      let p : rank (phase_after (kind_in q.state)) ≡ rank OpenStood = rw e in
+      absurd (omega (arith, ap rank last_phase, ap rank stood)))
       (λ c. c) (either (of_kind FormKind.Open q.state) _ q.tells_state)
 
   -- The atoms that it declares defined rise below N.
@@ -167,11 +171,11 @@ module _ (fs : List Form) (q : InSequence fs) where
         let whole : all p (q.atoms ∷ (q.defined ++ (q.rules ++ (q.clauses ++ (q.loads ++ (q.state ∷ [])))))) ≡ true = rw q.whole at h in
         all_left p q.defined (q.rules ++ (q.clauses ++ (q.loads ++ (q.state ∷ [])))) (second (p q.atoms) _ whole)
 
-    marks_told : (after_all start fs).phase ≡ claim_stood → defined_forms (marked_atoms (after_all start fs).size (book_entries fs Marks)) ≡ q.defined
+    marks_told : (after_all start fs).phase ≡ ClaimStood → defined_forms (marked_atoms (after_all start fs).size (book_entries fs Marks)) ≡ q.defined
     unfolding atom_bound
     marks_told stood =
         let end = after_all start fs in
-        let bound : atom_bound end ≡ end.size = rw (ne_eqb end.phase nothing_yet (λ e. omega arith)) in
+        let bound : atom_bound end ≡ end.size = rw (ne_eqb (rank end.phase) (rank NothingYet) (λ e. omega (arith, ap rank stood))) in
         let rises = declared_rises end q.defined q.are_defined q.one_defined (defined_tested (parts_in_order end) ordered) in
         let below = declared_below end q.defined q.are_defined q.one_defined (defined_tested (numbers_within end) numbers) in
         ap defined_forms
@@ -189,7 +193,7 @@ module _ (fs : List Form) (q : InSequence fs) where
 
     -- The forms of what was read are the forms that were read.
     pub forms_again :
-        (after_all start fs).phase ≡ claim_stood → ClaimEntries (after_all start fs).size (groups_reached (after_all start fs)) (view_of q.state).pairs (book_entries fs) →
+        (after_all start fs).phase ≡ ClaimStood → ClaimEntries (after_all start fs).size (groups_reached (after_all start fs)) (view_of q.state).pairs (book_entries fs) →
         book_forms (tables_of (after_all start fs).size (book_entries fs)) (book_entries fs Values) (book_entries fs Levels) ≡ fs
     unfolding book_forms tables_of lent
     forms_again stood entered =
@@ -209,5 +213,5 @@ module _ (fs : List Form) (q : InSequence fs) where
         rw (atoms, marks_told stood, rules, clauses, loads, state) (sym q.whole)
 
 -- The claim of a book that ends with one.
-pub last_claim : (fs : List Form) (q : InSequence fs) → (after_all start fs).phase ≡ claim_stood → q.state ≡ claim_form (view_of q.state).pairs
+pub last_claim : (fs : List Form) (q : InSequence fs) → (after_all start fs).phase ≡ ClaimStood → q.state ≡ claim_form (view_of q.state).pairs
 last_claim fs q stood = sym (claim_form_lem q.state (claims fs q stood))

@@ -5,6 +5,7 @@ use mathlib.Core.Path.{◌≡◌, refl, ap, ◌∙◌}
 use mathlib.Core.List.{List, [], ◌∷◌, ◌++◌, map, append_assoc, append-nil, Memᴰ}
 use native.Mathlib.Omega.{arith}
 use lib.ListN.{length}
+use Rattle.std.specs.Prelude.{Ok}
 use Rattle.tables.specs.Faults.{Test, Absent}
 use Rattle.tables.specs.Rows.{rules_of, clauses_of}
 use Rattle.tables.specs.Loads.{loads_of}
@@ -14,9 +15,9 @@ use Rattle.format.specs.Forms.{PairText, Form, render_all}
 use Rattle.items.specs.Items.{level_columns}
 use Rattle.format.specs.Views.{view_of, of_kind, same_kind, kind_number}
 use Rattle.judging.specs.declared.reached.Reached.{Reached}
-use Rattle.judging.specs.declared.reached.Judged.TheVariants.{Passed}
 use Rattle.judging.specs.LentTables.{Table, Rules, Literals, Clauses, Loads, LoadLiterals, Minutes, Marks}
-use Rattle.judging.specs.States.{open_stood, claim_stood, start, groups_reached, count_in}
+use Rattle.judging.specs.declared.reached.Phase.TheVariants.{OpenStood, ClaimStood}
+use Rattle.judging.specs.States.{rank, start, groups_reached, count_in}
 use Rattle.judging.specs.Judging.{judge_text, forms_of}
 use Rattle.judging.specs.Books.{after_all, InSequence, IsBook}
 use Rattle.judging.proofs.TableLaws.{each_table}
@@ -112,7 +113,7 @@ module _
   is_book : IsBook (space_of held) (book_forms t values levels)
   is_book = book_is t none values levels writable fits.few_literals fits.few_terms (space_of held) (λ table. omega (arith, room_held held table, holds.each table))
 
-  passed : judge_text (space_of held) (text_of t values levels) ≡ Passed reached
+  passed : judge_text (space_of held) (text_of t values levels) ≡ Ok reached
   unfolding text_of reached
   passed = book_accepted (space_of held) (render_all (book_forms t values levels)) (book_forms t values levels) (record { rendered = refl; short = unfold text_of in fits.short; book = is_book })
 
@@ -137,20 +138,20 @@ module _
 
   -- The answer for the text, and the tables that it leaves.
   answer : Book
-  answer = answer_of (Passed reached)
+  answer = answer_of (Ok reached)
 
   taken : (table : Table) → used_in answer table ≡ taken_in t table
   unfolding answer answer_of used_in count_in taken_in
   taken =
       let k = taken_counted t none reached counted in
-      each_table (λ table. used_in (answer_of (Passed reached)) table ≡ taken_in t table) (k Rules) (k Literals) (k Clauses) (k Loads) (k LoadLiterals)
+      each_table (λ table. used_in (answer_of (Ok reached)) table ≡ taken_in t table) (k Rules) (k Literals) (k Clauses) (k Loads) (k LoadLiterals)
       (k Minutes) counted.size counted.size counted.size
 
-  stood : open_stood ≤ reached.phase
-  stood = omega (arith, counted.stood)
+  stood : rank OpenStood ≤ rank reached.phase
+  stood = omega (arith, ap rank counted.stood)
 
-  claim_stood_lem : claim_stood ≤ reached.phase
-  claim_stood_lem = omega (arith, counted.stood)
+  claim_stood_lem : rank ClaimStood ≤ rank reached.phase
+  claim_stood_lem = omega (arith, ap rank counted.stood)
 
   claimed : answer.state ≡ ClaimState
   unfolding answer answer_of state_of
@@ -180,10 +181,10 @@ module _
   unfolding entries reached
   all_passes = comes_back_sound t values levels sound fits.few_literals fits.few_terms counts reached.size same_book
 
-  back : ReadBack t values levels (answer_of (Passed reached)) (filled entries held)
+  back : ReadBack t values levels (answer_of (Ok reached)) (filled entries held)
   unfolding answer answer_of
   back =
-      let parts : tables_of reached.size (used_parts (answer_of (Passed reached)) (filled entries held)) ≡ tables_of reached.size entries =
+      let parts : tables_of reached.size (used_parts (answer_of (Ok reached)) (filled entries held)) ≡ tables_of reached.size entries =
       used_tables reached entries held counts stood in
       let told : level_columns (groups_reached reached) (pairs_of t.atoms 1 values levels) ≡ levels =
       ap (λ (groups : ℕ). level_columns groups (pairs_of t.atoms 1 values levels)) (one_group_read reached)
@@ -202,6 +203,6 @@ module _
   pub read_back : (book : Book) (after : Contents) → Reads (text_of t values levels) held book after → ReadBack t values levels book after
   unfolding contents_after entries
   read_back book after r =
-      let answered : book ≡ answer_of (Passed reached) = r.answered ∙ ap answer_of passed in
+      let answered : book ≡ answer_of (Ok reached) = r.answered ∙ ap answer_of passed in
       let written : after ≡ filled (book_entries (book_forms t values levels)) held = r.written ∙ rw (passed, forms_told) in
       rw (answered, written) back

@@ -2,22 +2,21 @@
 use Rattle.std.specs.Prelude.{ℕ, ◌+◌, ◌≤◌, ◌<◌, ◌≡◌, List, pos, length, get_or}
 use Rattle.wellfounded.specs.Lists.{sum_below}
 use Rattle.tables.specs.declared.Fault.{Fault}
-use Rattle.tables.specs.declared.Verdict.TheVariants.{Accepted, Refused}
+use Rattle.tables.specs.Faults.{accepted, refused}
 use Rattle.tables.specs.Limits.{max_value, max_level}
 use Rattle.tables.specs.Rows.{rule_count, rule_start, rule_size, rules_of, literals_by_rule, clause_count, clause_start, clause_size, clauses_of}
 use Rattle.tables.specs.Loads.{load_count, load_entry, load_size, loads_of}
 use Rattle.tables.specs.Sound.{Tables, claim_slices, Sound}
-use Rattle.judging.specs.declared.reached.Judged.TheVariants.{Failed}
-use Rattle.judging.specs.Judging.{max_bytes}
+use Rattle.judging.specs.Judging.{failed, max_bytes}
 use Rattle.judging.specs.LentTables.{Table, Rules, Literals, Clauses, Loads, LoadLiterals, Minutes, Marks, Values, Levels}
 use Rattle.forms.specs.Contents.{Contents, over}
 use Rattle.booktext.specs.declared.StateForm.TheVariants.{ClaimState}
 use Rattle.booktext.specs.declared.Book.{Book}
 use Rattle.booktext.specs.Answers.{answer_of, Reads}
 use Rattle.booktext.specs.UsedParts.{used_in, used_parts, tables_of}
-use Rattle.writing.specs.declared.Written.{Written}
+use Rattle.std.specs.declared.result.Result.TheVariants.{Ok}
+use Rattle.writing.specs.Writing.{Written, literals_by_row, terms_by_row, write_of}
 use Rattle.writing.specs.BookForms.{text_of}
-use Rattle.writing.specs.Writing.{literals_by_row, terms_by_row, write_of}
 
 -- How many entries of each table a book and its claim take once they are written and read: as many rows as before, literals and terms
 -- counted by row, and N marks, values and levels.
@@ -61,7 +60,7 @@ pub record Consecutive (t : Tables) : Type 0 where
 -- What was written comes back: the text is accepted with its claim, exactly the entries that it takes are used, and their parts of the tables
 -- say the same, with consecutive rows and the same claim. What came back has no fault, so that it can be written again.
 pub record ReadBack (t : Tables) (values levels : List ℕ) (book : Book) (tables : Contents) : Type 0 where
-  pub accepted : book.verdict ≡ Accepted
+  pub accepted : book.verdict ≡ accepted
   pub claimed : book.state ≡ ClaimState
   pub taken : (table : Table) → used_in book table ≡ taken_in t table
   pub same : SameBook t (tables_of book.atoms (used_parts book tables))
@@ -74,17 +73,16 @@ pub record ReadBack (t : Tables) (values levels : List ℕ) (book : Book) (table
 
 -- What was read is written as the text that it was read from: nothing is refused, and the buffer holds these bytes, followed by what it held.
 pub record WrittenBack (text before : List ℕ) (answer : Written) (afterwards : List ℕ) : Type 0 where
-  pub accepted : answer.verdict ≡ Accepted
-  pub long : answer.length ≡ length text
+  pub answered : answer ≡ Ok (length text)
   pub bytes : afterwards ≡ over text before
 
 -- What `rewrite` promises of its answer and of the tables afterwards. Its own buffer holds the longest text, so the buffer's length refuses nothing.
 pub record Rewrites (t : Tables) (values levels : List ℕ) (before : Contents) (answer : Book) (afterwards : Contents) : Type 0 where
   -- What the writer refuses is answered as a refused text is, and nothing is written.
   pub refused :
-      (fault : Fault) (position : ℕ) → write_of t values levels max_bytes ≡ Refused fault position →
-      (answer ≡ answer_of (Failed fault position)) × (afterwards ≡ before)
+      (fault : Fault) (position : ℕ) → write_of t values levels max_bytes ≡ refused fault position →
+      (answer ≡ answer_of (failed fault position)) × (afterwards ≡ before)
   -- What it writes is read: the answer and the tables are those for the text.
-  pub read : write_of t values levels max_bytes ≡ Accepted → Reads (text_of t values levels) before answer afterwards
+  pub read : write_of t values levels max_bytes ≡ accepted → Reads (text_of t values levels) before answer afterwards
   -- And where the tables hold the text, what was written comes back.
-  pub back : write_of t values levels max_bytes ≡ Accepted → HoldsBook t before → ReadBack t values levels answer afterwards
+  pub back : write_of t values levels max_bytes ≡ accepted → HoldsBook t before → ReadBack t values levels answer afterwards

@@ -6,8 +6,6 @@ ghost use Rattle.forms.specs.Contents.{lent_tables};
 ghost use Rattle.roundtrips.specs.RoundTrips.{Rewrites};
 
 use booktext::{Book, answer_of, read};
-use judging::reached::Judged;
-use tables::Verdict;
 use tables::sizes::MAX_BYTES;
 use writing::write;
 
@@ -47,11 +45,10 @@ pub fn rewrite(
         levels,
         &mut text,
     );
-    let verdict = written.verdict;
-    if let Verdict::Refused(fault, position) = verdict {
-        return answer_of(Judged::Failed(fault, position));
-    }
-    let length = written.length;
+    let length = match written {
+        Ok(length) => length,
+        Err(refusal) => return answer_of(Err(refusal)),
+    };
     read(
         &text[0..length],
         rules,

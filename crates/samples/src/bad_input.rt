@@ -1,103 +1,51 @@
 // Lent tables and claims with a fault: each line has what is wrong, the verdict's number and its position.
-use checker::check;
-use shown::{end_line, show_verdict};
+use super::lent::{Lent, ONE_ATOM, show_claim};
 use std::io;
-use tables::Verdict;
-
-fn show(rt: &impl Print, name: &[u8], verdict: Verdict) -> io::Result<()> {
-    show_verdict(rt, name, verdict)?;
-    end_line(rt)
-}
-
-// A claim on one true atom at a level, with rules, literals and clauses.
-fn claim(
-    rt: &impl Print,
-    name: &[u8],
-    rules: &[u16],
-    literals: &[u16],
-    clauses: &[u16],
-    level: u16,
-) -> io::Result<()> {
-    let none = [0i32; 0];
-    let no_literals = [0u16; 0];
-    let no_minutes = [0i16; 0];
-    let marks = [0u8];
-    let values = [1u8];
-    let levels = [level];
-    let verdict = check(
-        1,
-        rules,
-        literals,
-        clauses,
-        &none,
-        &no_literals,
-        &no_minutes,
-        &marks,
-        &values,
-        &levels,
-    );
-    show(rt, name, verdict)
-}
 
 // One rule row over one literal.
 fn rule_row(rt: &impl Print, name: &[u8], head: u16, start: u16, size: u16) -> io::Result<()> {
-    let rules = [head, start, size];
-    let literals = [0u16];
-    let clauses = [0u16; 0];
-    claim(rt, name, &rules, &literals, &clauses, 1)
+    let lent = Lent {
+        rules: &[head, start, size],
+        literals: &[0],
+        ..ONE_ATOM
+    };
+    show_claim(rt, name, lent, &[1], &[1])
 }
 
 // One clause row over one literal.
 fn clause_row(rt: &impl Print, name: &[u8], literal: u16, start: u16, size: u16) -> io::Result<()> {
-    let rules = [0u16; 0];
-    let literals = [literal];
-    let clauses = [start, size];
-    claim(rt, name, &rules, &literals, &clauses, 0)
+    let lent = Lent {
+        literals: &[literal],
+        clauses: &[start, size],
+        ..ONE_ATOM
+    };
+    show_claim(rt, name, lent, &[1], &[0])
 }
 
 // Two literals that nothing uses.
 fn unused(rt: &impl Print, name: &[u8], first: u16, second: u16) -> io::Result<()> {
-    let rules = [0u16; 0];
-    let literals = [first, second];
-    let clauses = [0u16; 0];
-    claim(rt, name, &rules, &literals, &clauses, 0)
+    let lent = Lent {
+        literals: &[first, second],
+        ..ONE_ATOM
+    };
+    show_claim(rt, name, lent, &[1], &[0])
 }
 
-// A claim whose tables are the first so many of the zeros.
-fn parts(
+// These rules, literals and clauses, and no more.
+fn rows<'a>(
     rt: &impl Print,
     name: &[u8],
-    zeros: &[u16],
-    rules: usize,
-    literals: usize,
-    clauses: usize,
+    rules: &'a [u16],
+    literals: &'a [u16],
+    clauses: &'a [u16],
 ) -> io::Result<()> {
-    if rules <= zeros.len() {
-        if literals <= zeros.len() {
-            if clauses <= zeros.len() {
-                claim(
-                    rt,
-                    name,
-                    &zeros[0..rules],
-                    &zeros[0..literals],
-                    &zeros[0..clauses],
-                    0,
-                )?;
-            }
-        }
-    }
-    Ok(())
-}
-
-fn sizes(
-    rt: &impl Print,
-    name: &[u8],
-    rules: usize,
-    literals: usize,
-    clauses: usize,
-) -> io::Result<()> {
-    let zeros = [0u16; 16386];
-    parts(rt, name, &zeros, rules, literals, clauses)
+    let lent = Lent {
+        rules,
+        literals,
+        clauses,
+        ..ONE_ATOM
+    };
+    show_claim(rt, name, lent, &[1], &[0])
 }
 
 // One load row over one true literal.
@@ -110,26 +58,13 @@ fn load_row(
     size: i32,
     minutes: i16,
 ) -> io::Result<()> {
-    let none = [0u16; 0];
-    let loads = [low, high, start, size];
-    let load_literals = [0u16];
-    let worked = [minutes];
-    let marks = [0u8];
-    let values = [1u8];
-    let levels = [0u16];
-    let verdict = check(
-        1,
-        &none,
-        &none,
-        &none,
-        &loads,
-        &load_literals,
-        &worked,
-        &marks,
-        &values,
-        &levels,
-    );
-    show(rt, name, verdict)
+    let lent = Lent {
+        loads: &[low, high, start, size],
+        load_literals: &[0],
+        minutes: &[minutes],
+        ..ONE_ATOM
+    };
+    show_claim(rt, name, lent, &[1], &[0])
 }
 
 // An open atom and one that is a fact, with these values and levels.
@@ -141,138 +76,84 @@ fn values_and_levels(
     first_level: u16,
     second_level: u16,
 ) -> io::Result<()> {
-    let none = [0u16; 0];
-    let no_loads = [0i32; 0];
-    let no_minutes = [0i16; 0];
-    let rules = [1u16, 0, 0];
-    let marks = [0u8; 2];
-    let values = [first, second];
-    let levels = [first_level, second_level];
-    let verdict = check(
-        2,
-        &rules,
-        &none,
-        &none,
-        &no_loads,
-        &none,
-        &no_minutes,
-        &marks,
-        &values,
-        &levels,
-    );
-    show(rt, name, verdict)
+    let lent = Lent {
+        atoms: 2,
+        rules: &[1, 0, 0],
+        marks: &[0, 0],
+        ..ONE_ATOM
+    };
+    show_claim(
+        rt,
+        name,
+        lent,
+        &[first, second],
+        &[first_level, second_level],
+    )
 }
 
 // Rows that overlap in the literal table, with a literal twice and with its complement: (rule 1 0 0 (not 0)),
 // (rule 1 0 (not 0)), (clause 0 0), (clause 0 (not 0)).
 fn overlapping(rt: &impl Print, name: &[u8], first: u8, second: u8) -> io::Result<()> {
-    let rules = [1u16, 0, 3, 1, 1, 2];
-    let literals = [0u16, 0, 1];
-    let clauses = [0u16, 2, 1, 2];
-    let no_loads = [0i32; 0];
-    let none = [0u16; 0];
-    let no_minutes = [0i16; 0];
-    let marks = [0u8; 2];
-    let values = [first, second];
-    let levels = [0u16, 1];
-    let verdict = check(
-        2,
-        &rules,
-        &literals,
-        &clauses,
-        &no_loads,
-        &none,
-        &no_minutes,
-        &marks,
-        &values,
-        &levels,
-    );
-    show(rt, name, verdict)
+    let lent = Lent {
+        atoms: 2,
+        rules: &[1, 0, 3, 1, 1, 2],
+        literals: &[0, 0, 1],
+        clauses: &[0, 2, 1, 2],
+        marks: &[0, 0],
+        ..ONE_ATOM
+    };
+    show_claim(rt, name, lent, &[first, second], &[0, 1])
 }
 
 // A load literal without its minutes.
 fn minutes_missing(rt: &impl Print, name: &[u8]) -> io::Result<()> {
-    let none = [0u16; 0];
-    let no_loads = [0i32; 0];
-    let load_literals = [0u16];
-    let no_minutes = [0i16; 0];
-    let marks = [0u8];
-    let values = [1u8];
-    let levels = [0u16];
-    let verdict = check(
-        1,
-        &none,
-        &none,
-        &none,
-        &no_loads,
-        &load_literals,
-        &no_minutes,
-        &marks,
-        &values,
-        &levels,
-    );
-    show(rt, name, verdict)
+    let lent = Lent {
+        load_literals: &[0],
+        ..ONE_ATOM
+    };
+    show_claim(rt, name, lent, &[1], &[0])
 }
 
-// So many open atoms, with marks for them and that many values and levels.
+// So many open atoms, with marks, values and levels.
 fn open_atoms(
     rt: &impl Print,
     name: &[u8],
     atoms: usize,
-    valued: usize,
-    levelled: usize,
+    marks: &[u8],
+    values: &[u8],
+    levels: &[u16],
 ) -> io::Result<()> {
-    let none = [0u16; 0];
-    let no_loads = [0i32; 0];
-    let no_minutes = [0i16; 0];
-    let marks = [0u8; 1025];
-    let values = [0u8; 1025];
-    let levels = [0u16; 1025];
-    if atoms <= 1025 {
-        if valued <= 1025 {
-            if levelled <= 1025 {
-                let verdict = check(
-                    atoms,
-                    &none,
-                    &none,
-                    &none,
-                    &no_loads,
-                    &none,
-                    &no_minutes,
-                    &marks[0..atoms],
-                    &values[0..valued],
-                    &levels[0..levelled],
-                );
-                show(rt, name, verdict)?;
-            }
-        }
-    }
-    Ok(())
+    let lent = Lent {
+        atoms,
+        marks,
+        ..ONE_ATOM
+    };
+    show_claim(rt, name, lent, values, levels)
 }
 
 // Numbers of atoms at their limits and past them, and values and levels of other numbers.
 fn run_atoms(rt: &impl Print) -> io::Result<()> {
-    open_atoms(rt, b"no-atoms", 0, 0, 0)?;
-    open_atoms(rt, b"1024-atoms", 1024, 1024, 1024)?;
-    open_atoms(rt, b"1025-atoms", 1025, 1025, 1025)?;
-    open_atoms(rt, b"values-too-short", 2, 1, 2)?;
-    open_atoms(rt, b"levels-too-long", 2, 2, 3)
+    open_atoms(rt, b"no-atoms", 0, &[], &[], &[])?;
+    open_atoms(rt, b"1024-atoms", 1024, &[0; 1024], &[0; 1024], &[0; 1024])?;
+    open_atoms(rt, b"1025-atoms", 1025, &[0; 1025], &[0; 1025], &[0; 1025])?;
+    open_atoms(rt, b"values-too-short", 2, &[0; 2], &[0; 1], &[0; 2])?;
+    open_atoms(rt, b"levels-too-long", 2, &[0; 2], &[0; 2], &[0; 3])
 }
 
 // Tables of literals and rules at their limits, past them, and of no whole rows.
 fn run_rule_sizes(rt: &impl Print) -> io::Result<()> {
-    sizes(rt, b"16384-literals", 0, 16384, 0)?;
-    sizes(rt, b"16385-literals", 0, 16385, 0)?;
-    sizes(rt, b"2048-rules-at-level-0", 6144, 0, 0)?;
-    sizes(rt, b"2049-rules", 6147, 0, 0)?;
-    sizes(rt, b"no-whole-rule-rows", 4, 0, 0)
+    rows(rt, b"16384-literals", &[], &[0; 16384], &[])?;
+    rows(rt, b"16385-literals", &[], &[0; 16385], &[])?;
+    rows(rt, b"2048-rules-at-level-0", &[0; 6144], &[], &[])?;
+    rows(rt, b"2049-rules", &[0; 6147], &[], &[])?;
+    rows(rt, b"no-whole-rule-rows", &[0; 4], &[], &[])
 }
 
 // The same of clauses, and minutes that are missing.
 fn run_clause_sizes(rt: &impl Print) -> io::Result<()> {
-    sizes(rt, b"2048-empty-clauses", 0, 0, 4096)?;
-    sizes(rt, b"2049-clauses", 0, 0, 4098)?;
-    sizes(rt, b"no-whole-clause-rows", 0, 0, 1)?;
+    rows(rt, b"2048-empty-clauses", &[], &[], &[0; 4096])?;
+    rows(rt, b"2049-clauses", &[], &[], &[0; 4098])?;
+    rows(rt, b"no-whole-clause-rows", &[], &[], &[0; 1])?;
     minutes_missing(rt, b"minutes-missing")
 }
 

@@ -9,6 +9,7 @@ mod bad_input;
 mod chains;
 mod claims;
 mod evaluated;
+mod lent;
 mod marks;
 mod pages;
 mod paper;

@@ -1,8 +1,17 @@
 // Two atoms and `(rule 1 (not 0))`: atom 0, which no rule has as its head, is open, or it is declared defined by its mark.
-use checker::check;
-use evaluator::evaluate;
-use shown::{end_line, show_levels, show_number, show_values, show_verdict};
+use super::lent::{Lent, ONE_ATOM, show_claim, show_made};
 use std::io;
+
+// The two atoms with these marks.
+fn marked(marks: &[u8]) -> Lent {
+    Lent {
+        atoms: 2,
+        rules: &[1, 0, 1],
+        literals: &[1],
+        marks,
+        ..ONE_ATOM
+    }
+}
 
 // A claim on the two atoms.
 fn claim(
@@ -12,60 +21,20 @@ fn claim(
     values: &[u8],
     levels: &[u16],
 ) -> io::Result<()> {
-    let rules = [1u16, 0, 1];
-    let literals = [1u16];
-    let none = [0u16; 0];
-    let no_loads = [0i32; 0];
-    let no_minutes = [0i16; 0];
-    let verdict = check(
-        2,
-        &rules,
-        &literals,
-        &none,
-        &no_loads,
-        &none,
-        &no_minutes,
-        marks,
-        values,
-        levels,
-    );
-    show_verdict(rt, name, verdict)?;
-    end_line(rt)
+    show_claim(rt, name, marked(marks), values, levels)
 }
 
-// An evaluation with these open values. The slices hold numbers on entry that it leaves only if it is refused.
+// An evaluation with these open values.
 fn made(rt: &impl Print, name: &[u8], marks: &[u8], open_values: &[u8]) -> io::Result<()> {
-    let rules = [1u16, 0, 1];
-    let literals = [1u16];
-    let none = [0u16; 0];
-    let no_loads = [0i32; 0];
-    let no_minutes = [0i16; 0];
-    let mut values = [9u8; 2];
-    let mut levels = [9u16; 2];
-    let mut work = [9u16; 2];
-    let answer = evaluate(
-        2,
-        &rules,
-        &literals,
-        &none,
-        &no_loads,
-        &none,
-        &no_minutes,
-        marks,
+    show_made(
+        rt,
+        name,
+        marked(marks),
         open_values,
-        &mut values,
-        &mut levels,
-        &mut work,
-    );
-    let verdict = answer.verdict;
-    let rounds = answer.rounds;
-    show_verdict(rt, name, verdict)?;
-    show_number(rt, b" rounds ", rounds)?;
-    rt.write_all(b" values")?;
-    show_values(rt, &values)?;
-    rt.write_all(b" levels")?;
-    show_levels(rt, &levels)?;
-    end_line(rt)
+        &mut [9; 2],
+        &mut [9; 2],
+        &mut [9; 2],
+    )
 }
 
 // Claims on an atom that is declared, with and without a rule, and on one that is not.

@@ -1,13 +1,12 @@
 // Pages among the samples: the order of their lines.
 use page::PAGE_SIZE;
 use report::report;
-use shown::end_line;
 use std::io;
 
 // A line with the sample's name, and its page.
 fn show_page(rt: &impl Print, name: &[u8], text: &[u8]) -> io::Result<()> {
     rt.write_all(name)?;
-    end_line(rt)?;
+    println!(rt; "")?;
     let mut page = [0u8; PAGE_SIZE];
     let printed = report(text, &mut page);
     rt.write_all(&page[0..printed])

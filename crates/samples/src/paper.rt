@@ -2,17 +2,18 @@
 ghost use Rattle.std.specs.Prelude.{◌<◌};
 
 use outcome::outcome_of;
+use page::PAGE_SIZE;
 use samplelist::{SAMPLES, put_sample_page};
-use shown::{end_line, show_number, show_verdict};
+use shown::show_verdict;
 use std::io;
+use tables::sizes::MAX_ATOMS;
 
 // A line with the sample's place in the list, and its page.
 fn show_sample(rt: &impl Print, sample: usize) -> io::Result<()>
     requires { sample < 12 }
 {
-    show_number(rt, b"sample ", sample)?;
-    end_line(rt)?;
-    let mut page = [0u8; 19487];
+    println!(rt; "sample {sample}")?;
+    let mut page = [0u8; PAGE_SIZE];
     let printed = put_sample_page(sample, &mut page);
     rt.write_all(&page[0..printed])
 }
@@ -25,12 +26,11 @@ fn run_listed(rt: &impl Print) -> io::Result<()> {
 }
 
 fn show_outcome(rt: &impl Print, name: &[u8], text: &[u8]) -> io::Result<()> {
-    let mut values = [0u8; 1024];
-    let mut levels = [0u16; 1024];
+    let mut values = [0u8; MAX_ATOMS];
+    let mut levels = [0u16; MAX_ATOMS];
     let outcome = outcome_of(text, &mut values, &mut levels);
-    let verdict = outcome.verdict;
-    show_verdict(rt, name, verdict)?;
-    end_line(rt)
+    show_verdict(rt, name, outcome.verdict)?;
+    println!(rt; "")
 }
 
 // The samples that the paper has run without a proof.

@@ -7,8 +7,8 @@ ghost use Rattle.tables.specs.Rows.{clause_count};
 ghost use Rattle.tables.specs.internal.Scans.{ClausesScannable};
 ghost use Rattle.satisfaction.specs.Satisfied.{clause_holds, failing_clause};
 
-use tables::Found;
 use tables::rows::{clause_count, clause_size, clause_start};
+use tables::searches::lowest;
 use wellfounded::literal_true;
 
 // Whether one of the first `size` literals is true in the values.
@@ -16,17 +16,16 @@ fn some_literal_true(literals: &[u16], size: usize, values: &[u8]) -> bool
     requires { Scannable literals.now 0 size (length values.now) }
     ensures { result ≡ clause_holds values.now (body_at literals.now 0 size) }
 {
-    let mut i = 0;
-    while i < size {
-        if literal_true(literals[i], values) {
+    // A `for` and not the library's `any`, for the reason that `literals_true` of wellfounded has.
+    for literal in &literals[..size] {
+        if literal_true(*literal, values) {
             return true;
         }
-        i += 1;
     }
     false
 }
 
-// Whether the clause that begins at `start` holds in the values.
+// Whether the clause that begins at `start` holds in the values. The part from start on is the form that docs/DECISIONS.md names for it.
 fn clause_holds(literals: &[u16], start: usize, size: usize, values: &[u8]) -> bool
     requires { Scannable literals.now start size (length values.now) }
     ensures { result ≡ clause_holds values.now (body_at literals.now start size) }
@@ -45,18 +44,12 @@ fn clause_row_fails(clauses: &[u16], literals: &[u16], values: &[u8], row: usize
 }
 
 // The lowest clause row that fails in the values.
-pub fn failing_clause(clauses: &[u16], literals: &[u16], values: &[u8]) -> Found
+pub fn failing_clause(clauses: &[u16], literals: &[u16], values: &[u8]) -> Option<usize>
     requires { ClausesScannable clauses.now literals.now (length values.now) }
     ensures { result ≡ lowest (clause_count clauses.now)
         (failing_clause clauses.now literals.now values.now) }
 {
-    let rows = clause_count(clauses);
-    let mut row = 0;
-    while row < rows {
-        if clause_row_fails(clauses, literals, values, row) {
-            return Found::At(row);
-        }
-        row += 1;
-    }
-    Found::Nothing
+    lowest(clause_count(clauses), |row| {
+        clause_row_fails(clauses, literals, values, row)
+    })
 }

@@ -11,7 +11,8 @@ mod loads;
 
 use clauses::failing_clause;
 use loads::failing_load;
-use tables::{Fault, Found, Verdict};
+use tables::refusals::absent;
+use tables::{Fault, Verdict};
 
 // The first failing clause, or else the first failing load line.
 pub fn satisfaction_fault(
@@ -28,11 +29,12 @@ pub fn satisfaction_fault(
         (clause_test clauses.now literals.now values.now
         ∷ load_test loads.now load_literals.now minutes.now values.now ∷ []) }
 {
-    if let Found::At(row) = failing_clause(clauses, literals, values) {
-        return Verdict::Refused(Fault::FailingClause, row);
-    }
-    if let Found::At(row) = failing_load(loads, load_literals, minutes, values) {
-        return Verdict::Refused(Fault::FailingLoad, row);
-    }
-    Verdict::Accepted
+    absent(
+        Fault::FailingClause,
+        failing_clause(clauses, literals, values),
+    )?;
+    absent(
+        Fault::FailingLoad,
+        failing_load(loads, load_literals, minutes, values),
+    )
 }

@@ -7,8 +7,8 @@ ghost use Rattle.satisfaction.specs.Tenths.{round_tenth, tenths};
 ghost use Rattle.satisfaction.specs.Satisfied.{term_count, load_sum, load_holds, failing_load};
 ghost use Rattle.satisfaction.specs.internal.Terms.{SmallCount, TermsScannable};
 
-use tables::Found;
 use tables::load_rows::{load_count, load_size, load_start, within_bounds};
+use tables::searches::lowest;
 use wellfounded::literal_true;
 
 // Whole tenths of an hour: the nearest, of two equally near the even one. The one place of the tie rule.
@@ -23,11 +23,7 @@ fn round_tenth(minutes: u32) -> u32
 fn magnitude(minutes: i16) -> u32
     ensures { result ≡ nat_abs minutes }
 {
-    if minutes < 0 {
-        (0 - minutes as i32) as u32
-    } else {
-        minutes as u32
-    }
+    minutes.unsigned_abs() as u32
 }
 
 // The tenths of an hour that signed minutes count: those of their magnitude, with their sign.
@@ -52,16 +48,15 @@ fn terms_sum(load_literals: &[u16], minutes: &[i16], size: usize, values: &[u8])
     requires { TermsScannable load_literals.now minutes.now 0 size (length values.now) }
     ensures { result ≡ load_sum values.now (terms_at load_literals.now minutes.now 0 size) }
 {
+    // Summed by a `for`: of signed numbers the library's `sum` has no bound to ask for.
     let mut sum: i32 = 0;
-    let mut i = 0;
-    while i < size {
-        sum += term_count(load_literals, minutes, i, values);
-        i += 1;
+    for place in 0..size {
+        sum += term_count(load_literals, minutes, place, values);
     }
     sum
 }
 
-// The sum over the `size` terms that begin at `start`.
+// The sum over the `size` terms that begin at `start`. The part from start on is the form that docs/DECISIONS.md names for it.
 fn load_sum(load_literals: &[u16], minutes: &[i16], start: usize, size: usize, values: &[u8]) -> i32
     requires { TermsScannable load_literals.now minutes.now start size (length values.now) }
     ensures { result ≡ load_sum values.now (terms_at load_literals.now minutes.now start size) }
@@ -88,18 +83,17 @@ fn load_holds(
 }
 
 // The lowest load row that fails in the values.
-pub fn failing_load(loads: &[i32], load_literals: &[u16], minutes: &[i16], values: &[u8]) -> Found
+pub fn failing_load(
+    loads: &[i32],
+    load_literals: &[u16],
+    minutes: &[i16],
+    values: &[u8],
+) -> Option<usize>
     requires { LoadsScannable loads.now load_literals.now minutes.now (length values.now) }
     ensures { result ≡ lowest (load_count loads.now)
         (failing_load loads.now load_literals.now minutes.now values.now) }
 {
-    let rows = load_count(loads);
-    let mut row = 0;
-    while row < rows {
-        if !load_holds(loads, load_literals, minutes, row, values) {
-            return Found::At(row);
-        }
-        row += 1;
-    }
-    Found::Nothing
+    lowest(load_count(loads), |row| {
+        !load_holds(loads, load_literals, minutes, row, values)
+    })
 }

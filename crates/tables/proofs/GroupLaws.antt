@@ -1,17 +1,17 @@
 -- Laws of the rows of a group, and of how many groups there are.
 -- Assumes nothing.
-use Prim.Native.Nat.{ℕ, zero, suc, ◌+◌, ◌*◌, ◌≤◌, ◌<◌}
+use Prim.Native.Nat.{ℕ, zero, suc, max, ◌+◌, ◌*◌, ◌≤◌, ◌<◌}
 use mathlib.Core.Path.{◌≡◌, refl, sym, ap, ◌∙◌}
 use mathlib.Core.Logic.{◌⊎◌, inl, inr, ⊎_elim}
 use mathlib.Core.Bool.{true, false, cond}
 use mathlib.Core.List.{List, [], ◌∷◌, ◌++◌, Memᴰ}
 use native.Mathlib.Omega.{arith}
-use native.Mathlib.Nat.{eq-or-lt_of_le, le_of_suc-le-suc}
+use native.Mathlib.Nat.{eq-or-lt_of_le, le_of_suc-le-suc, max-eq_left, max-eq_right}
 use native.Mathlib.Numerals.{add-one}
 use lib.Dec.{ltb}
 use lib.ListN.{length, take, drop, length-append, length-drop}
 use lib.Seq.{take_all, drop-append_seam, drop-append-le, take-append-le}
-use borrow.Author.Tests.{ltb-true, ltb-false, lt-ltb, le-ltb}
+use borrow.Author.Tests.{ltb-true, ltb-false}
 use Rattle.wellfounded.specs.Lists.{highest_below, join_below}
 use Rattle.wellfounded.proofs.Tests.{decided}
 use Rattle.tables.specs.Rows.{rule_count, rule_group, in_group, group_count, rows_of}
@@ -113,6 +113,14 @@ one_group rules =
     (λ (found : (row : ℕ) × (row < rule_count rules) × (rule_group rules row ≡ highest_below (rule_count rules) (rule_group rules))). ap suc (sym found.2))
     (highest_met (rule_count rules) (rule_group rules))
 
+-- The higher of two.
+higher : (a b : ℕ) → max a b ≡ cond (ltb a b) b a
+higher a b = by (decided (ltb a b))
+  where
+    by : (ltb a b ≡ true) ⊎ (ltb a b ≡ false) → max a b ≡ cond (ltb a b) b a
+    by (inl t) = rw t (max-eq_right (omega (arith, ltb-true a b t)))
+    by (inr x) = rw x (max-eq_left (ltb-false a b x))
+
 -- The search for the highest group has passed some rows.
 pub record Highest (f : ℕ → ℕ) (rows row high : ℕ) : Type 0 where
   pub low : row ≤ rows
@@ -124,24 +132,14 @@ module _ {f : ℕ → ℕ} {rows : ℕ} where
   unfolding highest_below
   highest_start = record { low = omega arith; is = refl; small = omega arith }
 
-  pub highest_raise :
-      {row high field : ℕ} → row < rows → Field 65536 (f row) field → high < field → Highest f rows row high → Highest f rows (row + 1) field
+  pub highest_turn :
+      {row high field : ℕ} → row < rows → Field 65536 (f row) field → Highest f rows row high → Highest f rows (row + 1) (max high field)
   unfolding highest_below
-  highest_raise {row} {high} {field} l x above h =
+  highest_turn {row} {high} {field} l x h =
       record {
         low = omega arith;
-        is = rw (add-one, lt-ltb (highest_below row f) (f row) (omega (arith, h.is, x.is))) x.is;
-        small = x.small;
-      }
-
-  pub highest_keep :
-      {row high field : ℕ} → row < rows → Field 65536 (f row) field → field ≤ high → Highest f rows row high → Highest f rows (row + 1) high
-  unfolding highest_below
-  highest_keep {row} {high} {field} l x above h =
-      record {
-        low = omega arith;
-        is = rw (add-one, le-ltb (highest_below row f) (f row) (omega (arith, h.is, x.is))) h.is;
-        small = h.small;
+        is = rw (add-one, ← h.is, ← x.is) (higher high field);
+        small = omega (arith, h.small, x.small);
       }
 
 pub highest_end :

@@ -7,9 +7,9 @@ use native.Mathlib.Omega.{arith}
 use lib.Dec.{ltb}
 use borrow.Author.Tests.{ltb-true}
 use Rattle.wellfounded.proofs.Tests.{first, second}
+use Rattle.std.specs.declared.result.Result.TheVariants.{Ok, Err}
 use Rattle.tables.specs.declared.Fault.{Fault}
-use Rattle.tables.specs.declared.Verdict.{Verdict}
-use Rattle.tables.specs.declared.Verdict.TheVariants.{Accepted, Refused}
+use Rattle.tables.specs.Faults.{Verdict, accepted, refused}
 use Rattle.tables.specs.Faults.{fault_number, number_of, position_of}
 use Rattle.tables.specs.contracts.Fault.{enum}
 use Rattle.tables.proofs.Enums.{every_value_lem, number_tells}
@@ -25,16 +25,16 @@ pub number_own : (f g : Fault) → fault_number f ≡ fault_number g → f ≡ g
 number_own = number_tells enum fault_number refl
 
 -- The number 0 is "accepted".
-pub zero_accepted : (v : Verdict) → number_of v ≡ 0 → v ≡ Accepted
-zero_accepted Accepted e = refl
-zero_accepted (Refused f p) e = absurd (omega (arith, (number_bounds f).0))
+pub zero_accepted : (v : Verdict) → number_of v ≡ 0 → v ≡ accepted
+zero_accepted (Ok nothing) e = refl
+zero_accepted (Err r) e = absurd (omega (arith, (number_bounds r.fault).0))
 
 -- A fault's number and a position are its refusal there.
-pub number_refused : (v : Verdict) (f : Fault) (p : ℕ) → number_of v ≡ fault_number f → position_of v ≡ p → v ≡ Refused f p
-number_refused Accepted f p n at = absurd (omega (arith, (number_bounds f).0))
-number_refused (Refused g q) f p n at = ap₂ Refused (number_own g f n) at
+pub number_refused : (v : Verdict) (f : Fault) (p : ℕ) → number_of v ≡ fault_number f → position_of v ≡ p → v ≡ refused f p
+number_refused (Ok nothing) f p n at = absurd (omega (arith, (number_bounds f).0))
+number_refused (Err r) f p n at = ap₂ refused (number_own r.fault f n) at
 
 -- No verdict's number has more than two digits.
 pub verdict_number : (v : Verdict) → number_of v < 100
-verdict_number Accepted = omega arith
-verdict_number (Refused f p) = (number_bounds f).1
+verdict_number (Ok nothing) = omega arith
+verdict_number (Err r) = (number_bounds r.fault).1

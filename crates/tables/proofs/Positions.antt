@@ -5,9 +5,9 @@ use mathlib.Core.Path.{◌≡◌, refl}
 use mathlib.Core.List.{List, [], ◌∷◌, ◌++◌, Memᴰ}
 use native.Mathlib.Omega.{arith}
 use borrow.Author.Tests.{not-false}
-use Rattle.tables.specs.declared.Found.{Found}
-use Rattle.tables.specs.declared.Found.TheVariants.{At, Nothing}
-use Rattle.tables.specs.declared.Verdict.TheVariants.{Accepted}
+use Rattle.std.specs.declared.option.Option.{Option}
+use Rattle.std.specs.declared.option.Option.TheVariants.{Some, None}
+use Rattle.tables.specs.Faults.{accepted}
 use Rattle.tables.specs.Limits.{max_position}
 use Rattle.tables.specs.Faults.{position_of, lowest, Test, refused_or, first_fault, Absent}
 use Rattle.tables.specs.Rows.{rule_count, clause_count, definition_of}
@@ -23,9 +23,9 @@ pub position_more :
 unfolding first_fault refused_or
 position_more x xs few later = step (lowest x.positions x.bad) refl
   where
-    step : (found : Found) → lowest x.positions x.bad ≡ found → position_of (refused_or x.fault found (first_fault xs)) ≤ max_position
-    step (At p) e = omega (arith, (lowest_at x.bad x.positions p e).0)
-    step Nothing e = later (nothing_absent x e)
+    step : (found : Option ℕ) → lowest x.positions x.bad ≡ found → position_of (refused_or x.fault found (first_fault xs)) ≤ max_position
+    step (Some p) e = omega (arith, (lowest_at x.bad x.positions p e).0)
+    step None e = later (nothing_absent x e)
 
 -- Few positions in each of several tests.
 abbrev pub Few : Test → Type 0
@@ -44,7 +44,7 @@ position_none = omega arith
 
 module _ (t : Tables) where
   -- Tables that are not refused for their sizes have small ones.
-  pub passed_sizes : (others : List Slice) (more : List Test) → first_fault (lent_tests t others ++ more) ≡ Accepted → Sizes t
+  pub passed_sizes : (others : List Slice) (more : List Test) → first_fault (lent_tests t others ++ more) ≡ accepted → Sizes t
   unfolding lent_tests table_tests
   passed_sizes others more e =
       (sizes_fault t).0 (not-false _ ((accepted_absent (lent_tests t others ++ more) e _ (Memᴰ.head refl)).nowhere 0 (omega arith)))

@@ -17,7 +17,7 @@ use Rattle.wellfounded.proofs.Tests.{not_both, both, first, second, either, or_l
 use Rattle.wellfounded.proofs.Lists.{all_use, all_make}
 use Rattle.tables.specs.Limits.{max_atoms, max_rule_rows, max_clause_rows, max_literals, max_load_rows, max_terms, max_minutes}
 use Rattle.tables.specs.declared.Fault.TheVariants.{SliceLength, Mark}
-use Rattle.tables.specs.declared.Verdict.TheVariants.{Refused}
+use Rattle.tables.specs.Faults.{refused}
 use Rattle.tables.specs.Faults.{Test, Absent, first_fault}
 use Rattle.tables.specs.Rows.{rule_width, clause_width, rule_count, rule_head, rule_start, rule_size, clause_start, clause_size}
 use Rattle.tables.specs.Loads.{load_width, load_count, load_entry}
@@ -210,7 +210,7 @@ slices_absent slices same = record { nowhere = λ k l. ap not (all_make is_sized
 -- A slice of another length is the fault at 0; slices that all have theirs leave the verdict to the tests after it.
 pub slice_refuses :
     (slices : List Slice) (later : List Test) (s : Slice) → Memᴰ s slices → (s.entries ≡ s.due → ⊥) →
-    first_fault (slice_test slices ∷ later) ≡ Refused SliceLength 0
+    first_fault (slice_test slices ∷ later) ≡ refused SliceLength 0
 unfolding slice_test is_sized
 slice_refuses slices later s m other =
     first_fails _ later 0 (once_fails _ (ap not (not_both _ (λ h. other (eqb-true _ _ (all_use is_sized slices h m))))))
@@ -258,7 +258,7 @@ marks_fault t = (fit, absent)
 
 -- Marks that are not one for each atom are the fault at 0; else the verdict is left to the tests after it.
 pub marks_refuse :
-    (t : Tables) (later : List Test) → (length t.marks ≡ t.atoms → ⊥) → first_fault (mark_count_test t ∷ later) ≡ Refused Mark 0
+    (t : Tables) (later : List Test) → (length t.marks ≡ t.atoms → ⊥) → first_fault (mark_count_test t ∷ later) ≡ refused Mark 0
 unfolding mark_count_test
 marks_refuse t later other = first_fails _ later 0 (once_fails _ (ap not (not_both _ (λ h. other (eqb-true _ _ h)))))
 

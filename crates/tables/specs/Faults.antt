@@ -1,15 +1,26 @@
 -- Verdicts, and the order in which faults are looked for.
-use Rattle.std.specs.Prelude.{ℕ, zero, suc, ◌<◌, ◌≡◌, Bool, true, false}
+use Rattle.std.specs.Prelude.{ℕ, zero, suc, ◌<◌, ◌≡◌, Bool, true, false, ⊤}
 use mathlib.Core.List.{List, [], ◌∷◌, ◌++◌, Memᴰ}
-use Rattle.tables.specs.declared.Found.{Found}
-use Rattle.tables.specs.declared.Found.TheVariants.{At, Nothing}
+use Rattle.std.specs.declared.option.Option.{Option}
+use Rattle.std.specs.declared.option.Option.TheVariants.{Some, None}
 use Rattle.tables.specs.declared.Fault.{Fault}
 use Rattle.tables.specs.declared.Fault.TheVariants.{Malformed, OutsideLimits, OutOfOrder, NoSpace}
 use Rattle.tables.specs.declared.Fault.TheVariants.{TableSizes, RuleRow, ClauseRow, LoadRow, Literal, LoadTerm, SliceLength}
 use Rattle.tables.specs.declared.Fault.TheVariants.{Value, Level, Unsupported, Unblocked, Undecided, FailingClause, FailingLoad}
 use Rattle.tables.specs.declared.Fault.TheVariants.{Mark, TextSize, IndexSize}
-use Rattle.tables.specs.declared.Verdict.{Verdict}
-use Rattle.tables.specs.declared.Verdict.TheVariants.{Accepted, Refused}
+use Rattle.std.specs.declared.result.Result.{Result}
+use Rattle.std.specs.declared.result.Result.TheVariants.{Ok, Err}
+use Rattle.tables.specs.declared.Refusal.{Refusal}
+
+-- What a call answers: it accepts, or it refuses for a fault at a position.
+abbrev pub Verdict : Type 0
+Verdict = Result ⊤ Refusal
+
+abbrev pub accepted : Verdict
+accepted = Ok tt
+
+abbrev pub refused : Fault → ℕ → Verdict
+refused fault position = Err (record { fault = fault; position = position })
 
 -- The paper's number of each fault.
 abbrev pub fault_number : Fault → ℕ
@@ -37,22 +48,22 @@ fault_number IndexSize = 33
 
 -- A verdict's number (0 is accepted) and its position, which the paper calls its spot (0 if accepted).
 abbrev pub number_of : Verdict → ℕ
-number_of Accepted = 0
-number_of (Refused fault position) = fault_number fault
+number_of (Ok nothing) = 0
+number_of (Err refusal) = fault_number refusal.fault
 
 abbrev pub position_of : Verdict → ℕ
-position_of Accepted = 0
-position_of (Refused fault position) = position
+position_of (Ok nothing) = 0
+position_of (Err refusal) = refusal.position
 
 -- The lowest number below n that fails, where `bad` says which fail.
-unfoldable pub or_at : Found → Bool → ℕ → Found
-or_at (At k) bad n = At k
-or_at Nothing true n = At n
-or_at Nothing false n = Nothing
+unfoldable pub or_at : Option ℕ → Bool → ℕ → Option ℕ
+or_at (Some k) bad n = Some k
+or_at None true n = Some n
+or_at None false n = None
 
-unfoldable pub lowest : ℕ → (ℕ → Bool) → Found
+unfoldable pub lowest : ℕ → (ℕ → Bool) → Option ℕ
 unfolding or_at
-lowest zero bad = Nothing
+lowest zero bad = None
 lowest (suc n) bad = or_at (lowest n bad) (bad n) n
 
 -- A test for one fault: the positions 0 to positions - 1 are looked at, and `bad` says where the fault is.
@@ -62,13 +73,13 @@ pub record Test : Type 0 where
   pub bad : ℕ → Bool
 
 -- The first fault in the list's order wins, then its lowest position.
-unfoldable pub refused_or : Fault → Found → Verdict → Verdict
-refused_or fault (At position) rest = Refused fault position
-refused_or fault Nothing rest = rest
+unfoldable pub refused_or : Fault → Option ℕ → Verdict → Verdict
+refused_or fault (Some position) rest = refused fault position
+refused_or fault None rest = rest
 
 unfoldable pub first_fault : List Test → Verdict
 unfolding refused_or
-first_fault [] = Accepted
+first_fault [] = accepted
 first_fault (t ∷ ts) = let rest = first_fault ts in refused_or t.fault (lowest t.positions t.bad) rest
 
 -- The fault occurs nowhere.

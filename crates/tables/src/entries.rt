@@ -5,9 +5,5 @@ ghost use Rattle.std.specs.Prelude.{◌≡◌, length, replicate};
 pub fn clear(entries: &mut [u16])
     ensures { entries.new ≡ replicate (length entries.old) 0 }
 {
-    let mut i = 0;
-    while i < entries.len() {
-        entries[i] = 0;
-        i += 1;
-    }
+    entries.fill(0);
 }

@@ -8,15 +8,9 @@ use super::rows::{rule_count, rule_group};
 pub fn group_count(rules: &[u16]) -> usize
     ensures { (result ≡ group_count rules.now) × (result ≤ 65536) }
 {
-    let rows = rule_count(rules);
-    let mut high = 0;
-    let mut row = 0;
-    while row < rows {
-        let group = rule_group(rules, row);
-        if high < group {
-            high = group;
-        }
-        row += 1;
+    let mut high: usize = 0;
+    for row in 0..rule_count(rules) {
+        high = high.max(rule_group(rules, row));
     }
     high + 1
 }

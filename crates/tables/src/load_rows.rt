@@ -10,7 +10,7 @@ ghost use Rattle.tables.specs.Sound.{good_load_row};
 // Entries in a row.
 pub const LOAD_WIDTH: usize = 4;
 
-pub const MAX_BOUND: i32 = 1_000_000;
+pub const MAX_BOUND: u32 = 1_000_000;
 
 // An entry of a table of load rows, as an index: 0 if it is negative.
 fn load_index(loads: &[i32], place: usize) -> usize
@@ -18,10 +18,7 @@ fn load_index(loads: &[i32], place: usize) -> usize
     ensures { Field 2147483648 (index_of (get_or loads.now place (pos 0))) result }
 {
     let index = loads[place];
-    if index < 0 {
-        return 0;
-    }
-    index as usize
+    usize::try_from(index).unwrap_or(0)
 }
 
 // How many load lines a table has.
@@ -68,8 +65,7 @@ fn bound_is_good(loads: &[i32], place: usize) -> bool
     requires { place < length loads.now }
     ensures { result ≡ leb (nat_abs (get_or loads.now place (pos 0))) max_bound }
 {
-    let bound = loads[place];
-    (-MAX_BOUND <= bound) & (bound <= MAX_BOUND)
+    loads[place].unsigned_abs() <= MAX_BOUND
 }
 
 // Whether an entry of a load table is not negative.

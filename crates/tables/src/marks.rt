@@ -11,11 +11,7 @@ pub fn copy_marks(marks: &[u8], defined: &mut [u8])
     requires { length marks.now ≤ length defined.old }
     ensures { Copied marks.now defined.old defined.new }
 {
-    let mut next = 0;
-    while next < marks.len() {
-        defined[next] = marks[next];
-        next += 1;
-    }
+    defined[..marks.len()].copy_from_slice(marks);
 }
 
 // Marks the atoms that a book declares defined, which it does in group 0 alone, in an array without marks.
@@ -34,14 +30,11 @@ fn mark_heads(rules: &[u16], group: usize, marks: &mut [u8])
     requires { (row : ℕ) → row < rule_count rules.now → rule_head rules.now row < length marks.old }
     ensures { marks.new ≡ mark_where (heads_rule rules.now group) marks.old }
 {
-    let rows = rule_count(rules);
-    let mut row = 0;
-    while row < rows {
+    for row in 0..rule_count(rules) {
         let head = rule_head(rules, row);
         if rule_group(rules, row) == group {
             marks[head] = 1;
         }
-        row += 1;
     }
 }
 
@@ -62,13 +55,12 @@ pub fn count_marked(marks: &[u8], size: usize) -> usize
     requires { size ≤ length marks.now }
     ensures { result ≡ count size (is_marked marks.now) }
 {
+    // Counted by a `for`: the contract is about places, and of the library's `filter` and `count` that did not follow.
     let mut marked = 0;
-    let mut atom = 0;
-    while atom < size {
-        if marks[atom] == 1 {
+    for mark in &marks[..size] {
+        if *mark == 1 {
             marked += 1;
         }
-        atom += 1;
     }
     marked
 }

@@ -1,4 +1,5 @@
-// Rows of the rule and clause tables, entry by entry. No other code knows how they are laid out.
+// Rows of the rule and clause tables, entry by entry. No other code knows how they are laid out. Each entry has a function of its own name, so that
+// what is read of a row is told where it is read.
 ghost use Rattle.std.specs.Prelude.{◌≡◌, ◌<◌, length, get_or};
 ghost use Rattle.tables.specs.Rows.{rule_count, rule_head, rule_start, rule_size, rule_group, clause_count, clause_start, clause_size};
 ghost use Rattle.tables.specs.internal.Fields.{Field};

@@ -4,9 +4,10 @@ ghost use Rattle.tables.specs.Faults.{first_fault};
 ghost use Rattle.tables.specs.Sound.{lent, sizes_fit, table_tests};
 
 use super::load_rows::LOAD_WIDTH;
+use super::refusals::{absent, require};
 use super::row_faults::{bad_clause_row, bad_literal, bad_load_row, bad_rule_row, bad_term};
 use super::rows::{CLAUSE_WIDTH, RULE_WIDTH};
-use super::{Fault, Found, Verdict};
+use super::{Fault, Verdict};
 
 pub const MAX_ATOMS: usize = 1024;
 
@@ -26,7 +27,7 @@ pub const MAX_LOAD_ENTRIES: usize = MAX_LOAD_ROWS * LOAD_WIDTH;
 
 pub const MAX_TERMS: usize = 4096;
 
-pub const MAX_MINUTES: i16 = 1440;
+pub const MAX_MINUTES: u16 = 1440;
 
 pub const MAX_VALUE: usize = 255;
 
@@ -72,7 +73,7 @@ pub fn table_fault(
     ensures { (marks : List ℕ) → result ≡ first_fault (table_tests (lent atoms rules.now literals.now clauses.now
         loads.now load_literals.now minutes.now marks)) }
 {
-    if !sizes_fit(
+    let fit = sizes_fit(
         atoms,
         rules.len(),
         literals.len(),
@@ -80,23 +81,11 @@ pub fn table_fault(
         loads.len(),
         load_literals.len(),
         minutes.len(),
-    ) {
-        return Verdict::Refused(Fault::TableSizes, 0);
-    }
-    if let Found::At(row) = bad_rule_row(atoms, rules, literals.len()) {
-        return Verdict::Refused(Fault::RuleRow, row);
-    }
-    if let Found::At(row) = bad_clause_row(clauses, literals.len()) {
-        return Verdict::Refused(Fault::ClauseRow, row);
-    }
-    if let Found::At(row) = bad_load_row(loads, load_literals.len()) {
-        return Verdict::Refused(Fault::LoadRow, row);
-    }
-    if let Found::At(place) = bad_literal(atoms, literals) {
-        return Verdict::Refused(Fault::Literal, place);
-    }
-    if let Found::At(place) = bad_term(atoms, load_literals, minutes) {
-        return Verdict::Refused(Fault::LoadTerm, place);
-    }
-    Verdict::Accepted
+    );
+    require(fit, Fault::TableSizes)?;
+    absent(Fault::RuleRow, bad_rule_row(atoms, rules, literals.len()))?;
+    absent(Fault::ClauseRow, bad_clause_row(clauses, literals.len()))?;
+    absent(Fault::LoadRow, bad_load_row(loads, load_literals.len()))?;
+    absent(Fault::Literal, bad_literal(atoms, literals))?;
+    absent(Fault::LoadTerm, bad_term(atoms, load_literals, minutes))
 }

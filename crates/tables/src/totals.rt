@@ -4,17 +4,15 @@ ghost use Rattle.tables.specs.Rows.{literals_by_rule};
 
 use super::rows::{rule_count, rule_size};
 
-// The literals of all rules.
+// The literals of all rules. A loop, as `.map(..).sum()` has to be shown in advance that the sum fits, and a function for this table and
+// others needs to be told each bound.
 pub fn rules_total(rules: &[u16]) -> usize
     requires { length rules.now ≤ 65536 }
     ensures { (result ≡ literals_by_rule rules.now) × (result ≤ 4294967296) }
 {
-    let rows = rule_count(rules);
     let mut total = 0;
-    let mut row = 0;
-    while row < rows {
+    for row in 0..rule_count(rules) {
         total += rule_size(rules, row);
-        row += 1;
     }
     total
 }

@@ -3,38 +3,16 @@ ghost use Rattle.std.specs.Prelude.{◌≡◌, ℕ, ◌≤◌, ◌<◌, length, 
 ghost use Rattle.tables.specs.Faults.{lowest};
 ghost use Rattle.tables.specs.Values.{not_held};
 
-use super::Found;
+use super::searches::lowest;
 
-// A number that no entry is above: the highest, or 0.
-fn highest(entries: &[u8]) -> u8
-    ensures { (atom : ℕ) → atom < length entries.now → get_or entries.now atom 0 ≤ result }
-{
-    let mut most = 0;
-    let mut atom = 0;
-    while atom < entries.len() {
-        let entry = entries[atom];
-        if most < entry {
-            most = entry;
-        }
-        atom += 1;
-    }
-    most
-}
-
-// The lowest atom whose entry is neither 0 nor 1. The highest tells whether there is one: its loop has no early end, so that it
+// The lowest atom whose entry is neither 0 nor 1. The highest tells whether there is one: finding it has no early end, so that it
 // looks at many entries at a time.
-pub fn not_held_atom(entries: &[u8]) -> Found
+pub fn not_held_atom(entries: &[u8]) -> Option<usize>
     ensures { result ≡ lowest (length entries.now) (not_held entries.now) }
 {
-    if highest(entries) <= 1 {
-        return Found::Nothing;
+    let highest = entries.iter().copied().max().unwrap_or(0);
+    if highest <= 1 {
+        return None;
     }
-    let mut atom = 0;
-    while atom < entries.len() {
-        if 1 < entries[atom] {
-            return Found::At(atom);
-        }
-        atom += 1;
-    }
-    Found::Nothing
+    lowest(entries.len(), |atom| 1 < entries[atom])
 }

@@ -9,16 +9,9 @@ fn put(buffer: &mut [u8], at: usize, bytes: &[u8]) -> usize
     requires { at ≤ length buffer.old }
     ensures { result ≤ length buffer.old }
 {
-    let mut next = at;
-    let mut place = 0;
-    while place < bytes.len() {
-        if next < buffer.len() {
-            buffer[next] = bytes[place];
-            next += 1;
-        }
-        place += 1;
-    }
-    next
+    let size = bytes.len().min(buffer.len() - at);
+    buffer[at..at + size].copy_from_slice(&bytes[..size]);
+    at + size
 }
 
 fn put_times(buffer: &mut [u8], at: usize, bytes: &[u8], times: usize) -> usize
@@ -26,10 +19,8 @@ fn put_times(buffer: &mut [u8], at: usize, bytes: &[u8], times: usize) -> usize
     ensures { result ≤ length buffer.old }
 {
     let mut next = at;
-    let mut time = 0;
-    while time < times {
+    for _ in 0..times {
         next = put(buffer, next, bytes);
-        time += 1;
     }
     next
 }

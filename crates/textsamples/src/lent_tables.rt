@@ -3,44 +3,40 @@ ghost use Rattle.std.specs.Prelude.{◌≤◌, length};
 
 use super::texts::show_book;
 use booktext::{Book, read};
-use shown::{end_line, show_levels, show_values};
+use shown::show_numbers;
+use std::fmt::Display;
 use std::io;
 
-fn show_whole(rt: &impl Print, number: i32) -> io::Result<()> {
-    rt.write_all(b" ")?;
-    rt.print(number)
-}
-
-fn bar(rt: &impl Print) -> io::Result<()> {
-    rt.write_all(b" |")
-}
-
-fn show_loads(rt: &impl Print, loads: &[i32]) -> io::Result<()> {
-    for load in loads {
-        show_whole(rt, *load)?;
-    }
-    Ok(())
-}
-
-fn show_minutes(rt: &impl Print, minutes: &[i16]) -> io::Result<()> {
-    for worked in minutes {
-        show_whole(rt, *worked as i32)?;
-    }
-    Ok(())
+// The tables that are lent.
+#[derive(Clone, Copy, PartialEq, Eq)]
+enum Table {
+    Rules,
+    Literals,
+    Clauses,
+    Loads,
+    LoadLiterals,
+    Minutes,
+    Marks,
+    Values,
+    Levels,
 }
 
 // How many entries a table is lent with: what the text needs, or one less where it is the short one.
-fn lent(needed: usize, table: usize, short: usize) -> usize
+fn lent(needed: usize, table: Table, short: Option<Table>) -> usize
     requires { 1 ≤ needed }
     ensures { result ≤ needed }
 {
-    if table == short { needed - 1 } else { needed }
+    if short == Some(table) {
+        needed - 1
+    } else {
+        needed
+    }
 }
 
-// A table of rules, clauses, literals or levels, after a bar.
-fn show_entries(rt: &impl Print, entries: &[u16]) -> io::Result<()> {
-    bar(rt)?;
-    show_levels(rt, entries)
+// The entries of a table, behind a bar.
+fn show_entries<N: Display>(rt: &impl Print, entries: &[N]) -> io::Result<()> {
+    rt.write_all(b" |")?;
+    show_numbers(rt, entries)
 }
 
 pub fn show_tables(
@@ -58,24 +54,20 @@ pub fn show_tables(
     show_entries(rt, rules)?;
     show_entries(rt, literals)?;
     show_entries(rt, clauses)?;
-    bar(rt)?;
-    show_loads(rt, loads)?;
+    show_entries(rt, loads)?;
     show_entries(rt, load_literals)?;
-    bar(rt)?;
-    show_minutes(rt, minutes)?;
-    bar(rt)?;
-    show_values(rt, marks)?;
-    bar(rt)?;
-    show_values(rt, values)?;
+    show_entries(rt, minutes)?;
+    show_entries(rt, marks)?;
+    show_entries(rt, values)?;
     show_entries(rt, levels)?;
-    end_line(rt)
+    println!(rt; "")
 }
 
 // Reads a text that needs 3 rule entries, 3 literals, 2 clause entries, 4 load entries, 1 term, 2 marks, 2 values and 2 levels.
 // The tables are lent with just so many, one less where `short` says so.
 fn read_lent(
     text: &[u8],
-    short: usize,
+    short: Option<Table>,
     rules: &mut [u16],
     literals: &mut [u16],
     clauses: &mut [u16],
@@ -89,15 +81,15 @@ fn read_lent(
     requires { (3 ≤ length rules.old) × (3 ≤ length literals.old) × (2 ≤ length clauses.old) × (4 ≤ length loads.old)
         × (1 ≤ length load_literals.old) × (1 ≤ length minutes.old) × (2 ≤ length marks.old) × (2 ≤ length values.old) × (2 ≤ length levels.old) }
 {
-    let rules_end = lent(3, 0, short);
-    let literals_end = lent(3, 1, short);
-    let clauses_end = lent(2, 2, short);
-    let loads_end = lent(4, 3, short);
-    let load_literals_end = lent(1, 4, short);
-    let minutes_end = lent(1, 5, short);
-    let marks_end = lent(2, 6, short);
-    let values_end = lent(2, 7, short);
-    let levels_end = lent(2, 8, short);
+    let rules_end = lent(3, Table::Rules, short);
+    let literals_end = lent(3, Table::Literals, short);
+    let clauses_end = lent(2, Table::Clauses, short);
+    let loads_end = lent(4, Table::Loads, short);
+    let load_literals_end = lent(1, Table::LoadLiterals, short);
+    let minutes_end = lent(1, Table::Minutes, short);
+    let marks_end = lent(2, Table::Marks, short);
+    let values_end = lent(2, Table::Values, short);
+    let levels_end = lent(2, Table::Levels, short);
     read(
         text,
         &mut rules[0..rules_end],
@@ -113,7 +105,7 @@ fn read_lent(
 }
 
 // The tables are shown with one entry more than the text needs.
-fn show_lent(rt: &impl Print, name: &[u8], text: &[u8], short: usize) -> io::Result<()> {
+fn show_lent(rt: &impl Print, name: &[u8], text: &[u8], short: Option<Table>) -> io::Result<()> {
     let mut rules = [9u16; 4];
     let mut literals = [9u16; 4];
     let mut clauses = [9u16; 3];
@@ -151,7 +143,8 @@ fn show_lent(rt: &impl Print, name: &[u8], text: &[u8], short: usize) -> io::Res
     )
 }
 
-fn show_claim(rt: &impl Print, name: &[u8], short: usize) -> io::Result<()> {
+// These three differ in their texts alone. Each stands in its call, where the check against other solvers finds it.
+fn show_claim(rt: &impl Print, name: &[u8], short: Option<Table>) -> io::Result<()> {
     show_lent(
         rt,
         name,
@@ -160,7 +153,7 @@ fn show_claim(rt: &impl Print, name: &[u8], short: usize) -> io::Result<()> {
     )
 }
 
-fn show_open(rt: &impl Print, name: &[u8], short: usize) -> io::Result<()> {
+fn show_open(rt: &impl Print, name: &[u8], short: Option<Table>) -> io::Result<()> {
     show_lent(
         rt,
         name,
@@ -169,7 +162,7 @@ fn show_open(rt: &impl Print, name: &[u8], short: usize) -> io::Result<()> {
     )
 }
 
-fn show_defined(rt: &impl Print, name: &[u8], short: usize) -> io::Result<()> {
+fn show_defined(rt: &impl Print, name: &[u8], short: Option<Table>) -> io::Result<()> {
     show_lent(
         rt,
         name,
@@ -180,49 +173,49 @@ fn show_defined(rt: &impl Print, name: &[u8], short: usize) -> io::Result<()> {
 
 // One of the first four tables is too short.
 fn run_short_rows(rt: &impl Print) -> io::Result<()> {
-    show_claim(rt, b"rules-short", 0)?;
-    show_claim(rt, b"literals-short", 1)?;
-    show_claim(rt, b"clauses-short", 2)?;
-    show_claim(rt, b"loads-short", 3)
+    show_claim(rt, b"rules-short", Some(Table::Rules))?;
+    show_claim(rt, b"literals-short", Some(Table::Literals))?;
+    show_claim(rt, b"clauses-short", Some(Table::Clauses))?;
+    show_claim(rt, b"loads-short", Some(Table::Loads))
 }
 
 // One of the last five is.
 fn run_short_entries(rt: &impl Print) -> io::Result<()> {
-    show_claim(rt, b"load-literals-short", 4)?;
-    show_claim(rt, b"minutes-short", 5)?;
-    show_claim(rt, b"marks-short", 6)?;
-    show_claim(rt, b"values-short", 7)?;
-    show_claim(rt, b"levels-short", 8)
+    show_claim(rt, b"load-literals-short", Some(Table::LoadLiterals))?;
+    show_claim(rt, b"minutes-short", Some(Table::Minutes))?;
+    show_claim(rt, b"marks-short", Some(Table::Marks))?;
+    show_claim(rt, b"values-short", Some(Table::Values))?;
+    show_claim(rt, b"levels-short", Some(Table::Levels))
 }
 
 // One of those that a state form needs is, for an open form.
 fn run_short_open(rt: &impl Print) -> io::Result<()> {
-    show_open(rt, b"open-marks-short", 6)?;
-    show_open(rt, b"open-values-short", 7)?;
-    show_open(rt, b"open-levels-short", 8)
+    show_open(rt, b"open-marks-short", Some(Table::Marks))?;
+    show_open(rt, b"open-values-short", Some(Table::Values))?;
+    show_open(rt, b"open-levels-short", Some(Table::Levels))
 }
 
 // Atoms declared defined: with a claim, with an open form, with short marks, and with short marks and no state form.
 fn run_defined(rt: &impl Print) -> io::Result<()> {
-    show_defined(rt, b"defined-held", 9)?;
+    show_defined(rt, b"defined-held", None)?;
     show_lent(
         rt,
         b"all-defined-held",
         b"(atoms 2)\n(defined 0 1)\n(open)\n",
-        9,
+        None,
     )?;
-    show_defined(rt, b"defined-marks-short", 6)?;
+    show_defined(rt, b"defined-marks-short", Some(Table::Marks))?;
     show_lent(
         rt,
         b"state-missing-beats-space",
         b"(atoms 2)\n(defined 1)\n",
-        6,
+        Some(Table::Marks),
     )
 }
 
 pub fn run_lent_tables(rt: &impl Print) -> io::Result<()> {
-    show_claim(rt, b"claim-held", 9)?;
-    show_open(rt, b"open-held", 9)?;
+    show_claim(rt, b"claim-held", None)?;
+    show_open(rt, b"open-held", None)?;
     run_short_rows(rt)?;
     run_short_entries(rt)?;
     run_short_open(rt)?;

@@ -1,4 +1,5 @@
 // Tables lent to the reader with other lengths than whole rows, or with more entries than any book has. Every entry was 9 before.
+// Each function has its own arrays, as it does in the other files: their lengths are part of their types, and are what it shows.
 use super::lent_tables::show_tables;
 use super::texts::show_book;
 use booktext::read;

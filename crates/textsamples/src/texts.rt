@@ -1,21 +1,21 @@
 // Texts through the reader: each line has what is special about a text, the verdict's number and position, N, the entries
 // used in each table, and the number of the state form.
 use booktext::{Book, read, state_number};
-use shown::{end_line, show_number, show_verdict};
+use shown::show_verdict;
 use std::io;
 
 // What the reader answered.
 pub fn show_book(rt: &impl Print, name: &[u8], book: Book) -> io::Result<()> {
-    let verdict = book.verdict;
-    let state = book.state;
-    show_verdict(rt, name, verdict)?;
-    show_number(rt, b" atoms ", book.atoms)?;
-    show_number(rt, b" rules ", book.rules)?;
-    show_number(rt, b" literals ", book.literals)?;
-    show_number(rt, b" clauses ", book.clauses)?;
-    show_number(rt, b" loads ", book.loads)?;
-    show_number(rt, b" terms ", book.terms)?;
-    show_number(rt, b" state ", state_number(state))
+    let state = state_number(book.state);
+    show_verdict(rt, name, book.verdict)?;
+    print!(rt;
+        " atoms {} rules {} literals {}",
+        book.atoms, book.rules, book.literals
+    )?;
+    print!(rt;
+        " clauses {} loads {} terms {} state {state}",
+        book.clauses, book.loads, book.terms
+    )
 }
 
 // Reads a text into tables of full size.
@@ -42,7 +42,7 @@ pub fn show_text(rt: &impl Print, name: &[u8], text: &[u8]) -> io::Result<()> {
         &mut levels,
     );
     show_book(rt, name, book)?;
-    end_line(rt)
+    println!(rt; "")
 }
 
 // Lines that are no forms for their spaces, ends or letters.

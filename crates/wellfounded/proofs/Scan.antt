@@ -5,6 +5,7 @@ use mathlib.Core.Path.{◌≡◌, sym}
 use mathlib.Core.Bool.{Bool, true, false}
 use mathlib.Core.List.Memᴰ
 use mathlib.Core.List.{List, [], ◌∷◌, Memᴰ}
+use native.Mathlib.Nat.{add-sub_cancel_left}
 use native.Mathlib.Numerals.{add-one}
 use native.Mathlib.Omega.{arith}
 use lib.ListN.{length, get_or, take, drop, length-take, length-drop, take-append-drop}
@@ -12,7 +13,7 @@ use lib.Seq.{drop-cons, take_all, get_or-drop}
 use Rattle.wellfounded.specs.Lists.{all, any}
 use Rattle.wellfounded.specs.Literals.{atom_of, body_at}
 use Rattle.wellfounded.specs.internal.Scans.{Scannable}
-use Rattle.wellfounded.proofs.Lists.{member_entry}
+use Rattle.wellfounded.proofs.Lists.{member_entry, entry_member}
 
 -- The scan has come to i: what it would make of the literals from i on is what it makes of the whole body.
 pub record Scanned (p : ℕ → Bool) (literals : List ℕ) (size i : ℕ) : Type 0 where
@@ -113,3 +114,20 @@ pub table_known :
     (literals : List ℕ) (atoms : ℕ) → ((place : ℕ) → place < length literals → atom_of (get_or literals place 0) < atoms) →
     {l : ℕ} → Memᴰ l literals → atom_of l < atoms
 table_known literals atoms known m = let entry = member_entry 0 literals m in rw entry.2 (known entry.0 entry.1)
+
+-- The part `&table[start..start + size]` is the body,
+pub body_part : (literals : List ℕ) (start size : ℕ) → take (start + size - start) (drop start literals) ≡ body_at literals start size
+unfolding body_at
+body_part literals start size = rw add-sub_cancel_left
+
+-- a body that is scanned as a list of its own is that list,
+pub body_whole : (body : List ℕ) → body_at body 0 (length body) ≡ body
+unfolding body_at
+body_whole body = take_all (length body) body (omega arith)
+
+-- and each of its literals is one of the table.
+pub body_known :
+    {literals : List ℕ} {start size atoms : ℕ} → Scannable literals start size atoms → {k : ℕ} → k < length (body_at literals start size) →
+    atom_of (get_or (body_at literals start size) k 0) < atoms
+body_known {literals} {start} {size} s {k} within =
+    table_known literals _ s.known (body_member literals start size (entry_member 0 (body_at literals start size) k within))

@@ -12,6 +12,8 @@ use lib.Dec.{eqb}
 use lib.ListN.{length, get_or, length-append, get_or-append}
 use lib.Seq.{get_or-append-add}
 use borrow.Author.Tests.{eq-eqb, ne_eqb}
+use Rattle.std.specs.List.{sum_by}
+use Rattle.std.proofs.lemmas.List.Sums.{sum_by-cons}
 use Rattle.wellfounded.specs.Lists.{count, sum_below, join_below, occurs}
 use Rattle.wellfounded.proofs.Lists.{le_or_lt}
 
@@ -50,6 +52,12 @@ pub sum_add : (n : ℕ) (f g : ℕ → ℕ) → sum_below n (λ k. f k + g k) �
 unfolding sum_below
 sum_add zero f g = refl
 sum_add (suc n) f g = let before = sum_add n f g in omega arith
+
+-- The library's sum over a list, place by place.
+pub sum_by_places : (f : ℕ → ℕ) (xs : List ℕ) → sum_by f xs ≡ sum_below (length xs) (λ k. f (get_or xs k 0))
+unfolding sum_below
+sum_by_places f [] = refl
+sum_by_places f (x ∷ xs) = sum_by-cons f x xs ∙ rw (sum_by_places f xs) (sym (sum_front (length xs) (λ k. f (get_or (x ∷ xs) k 0))))
 
 pub sum_none : (n : ℕ) → sum_below n (λ k. 0) ≡ 0
 unfolding sum_below

@@ -5,7 +5,7 @@ use mathlib.Core.Path.{◌≡◌, refl}
 use mathlib.Core.List.{List, [], ◌∷◌, ◌++◌}
 use lib.IntN.{pos}
 use Rattle.tables.specs.declared.Fault.TheVariants.{TextSize}
-use Rattle.tables.specs.declared.Verdict.TheVariants.{Accepted, Refused}
+use Rattle.tables.specs.Faults.{accepted, refused}
 use Rattle.tables.specs.Sound.{Tables, lent}
 use Rattle.writing.specs.BookForms.{text_of}
 use Rattle.writing.specs.Writing.{write_of}
@@ -62,10 +62,10 @@ unfolding computes book_a values levels atoms_line defined_line other_lines
 marked_text = refl
 
 -- The text without marks has 124 bytes: a buffer of as many is enough, and one of a byte less is not.
-pub exact_buffer : write_of (book_a no_marks) values levels 124 ≡ Accepted
+pub exact_buffer : write_of (book_a no_marks) values levels 124 ≡ accepted
 unfolding computes book_a no_marks values levels
 exact_buffer = refl
 
-pub buffer_one_short : write_of (book_a no_marks) values levels 123 ≡ Refused TextSize 0
+pub buffer_one_short : write_of (book_a no_marks) values levels 123 ≡ refused TextSize 0
 unfolding computes book_a no_marks values levels
 buffer_one_short = refl

@@ -1,6 +1,6 @@
 -- How many bytes parts and lines have, as the code adds them.
 -- Assumes nothing.
-use Prim.Native.Nat.{ℕ, zero, suc, ◌+◌, ◌*◌, ◌/◌, ◌%◌, ◌≤◌, ◌<◌}
+use Prim.Native.Nat.{ℕ, zero, suc, ◌+◌, ◌*◌, ◌/◌, ◌%◌, ◌≤◌}
 use mathlib.Core.Path.{◌≡◌, refl, ap, ◌∙◌}
 use mathlib.Core.Logic.{◌⊎◌, inl, inr}
 use mathlib.Core.Bool.{Bool, true, false, cond}
@@ -23,46 +23,25 @@ use Rattle.tables.specs.internal.Marks.{is_marked}
 use Rattle.format.specs.Forms.{space, decimal, signed, literal_bytes, render_all}
 use Rattle.writing.specs.BookForms.{literal_text, marked_atoms, defined_forms}
 use Rattle.writing.specs.internal.Parts.{mark_part}
-use Rattle.writing.specs.internal.Counting.{Counts, max_entries, max_line, max_lines}
+use Rattle.writing.specs.internal.Counting.{Counts, max_line}
 use Rattle.writing.proofs.PartLaws.{defined_none, minutes_length}
 use Rattle.writing.proofs.TextLaws.{parts_length, defined_parts}
 
 -- ── Parts added one after the other ──
 
--- The bytes of the parts passed are in the total. Each part is within a bound, so the total cannot wrap.
-pub record Adding (f : ℕ → List ℕ) (most parts place total : ℕ) : Type 0 where
-  pub low : place ≤ parts
-  pub is : total ≡ length (join_below place f)
-  pub few : total ≤ most * place
+-- The bytes of the parts passed are in the total.
+abbrev pub Adding : (ℕ → List ℕ) → ℕ → ℕ → ℕ → Type 0
+Adding f most place total = Counts (join_below place f) (most * place) total
 
-module _ (f : ℕ → List ℕ) (most parts : ℕ) where
-  pub adding_start : Adding f most parts 0 0
-  unfolding join_below
-  adding_start = record { low = omega arith; is = refl; few = omega arith }
+pub adding_start : (f : ℕ → List ℕ) (most : ℕ) → Adding f most 0 0
+unfolding join_below
+adding_start f most = record { is = refl; few = omega arith }
 
-  pub adding_turn :
-      (place total part : ℕ) → place < parts → Counts (f place) most part → Adding f most parts place total →
-      Adding f most parts (place + 1) (total + part)
-  adding_turn place total part l x s =
-      let next = ap length (join_more place f) ∙ length-append (join_below place f) (f place) in
-      record {
-        low = omega arith;
-        is = omega (arith, next, s.is, x.is);
-        few = omega (arith, s.few, x.few);
-      }
-
-  pub adding_end : (place total : ℕ) → parts ≤ place → Adding f most parts place total → Counts (join_below parts f) (most * parts) total
-  adding_end place total l s =
-      let e : place ≡ parts = omega (arith, s.low) in
-      record { is = s.is ∙ ap (λ (n : ℕ). length (join_below n f)) e; few = rw e at s.few }
-
--- The lines of all rows of a table, of which the code has read how many there are.
-pub lines_counted :
-    {text : List ℕ} (f : ℕ → List ℕ) (count rows row total : ℕ) → text ≡ join_below count f → rows ≡ count → count ≤ max_entries → rows ≤ row →
-    Adding f max_line rows row total → Counts text max_lines total
-lines_counted f count rows row total e read few l s =
-    let all = adding_end f max_line rows row total l s in
-    record { is = rw (e, ← read) all.is; few = omega (arith, all.few) }
+pub adding_turn :
+    (f : ℕ → List ℕ) (most place total part : ℕ) → Counts (f place) most part → Adding f most place total → Adding f most (place + 1) (total + part)
+adding_turn f most place total part x s =
+    let next = ap length (join_more place f) ∙ length-append (join_below place f) (f place) in
+    record { is = omega (arith, next, s.is, x.is); few = omega (arith, s.few, x.few) }
 
 -- ── Numbers that the code reads back from their bits ──
 
@@ -140,8 +119,8 @@ module _ (marks : List ℕ) where
       record { is = omega (arith, ap length (defined_none marks (length marks) count-zero)); few = omega arith }
 
   pub defined_counts :
-      (named : ℕ) → Counts (join_below (length marks) (mark_part marks)) (8 * max_atoms) named → (named ≡ 0 → ⊥) →
+      (named : ℕ) → length marks ≤ max_atoms → Counts (join_below (length marks) (mark_part marks)) (8 * length marks) named → (named ≡ 0 → ⊥) →
       Counts (render_all (defined_forms (marked_atoms (length marks) marks))) max_line (named + 10)
-  defined_counts named x some =
+  defined_counts named short x some =
       let marked : count (length marks) (is_marked marks) ≡ 0 → ⊥ = λ e. some (x.is ∙ marks_none (length marks) e) in
       record { is = omega (arith, x.is, parts_length (defined_parts (length marks) marks marked)); few = omega (arith, x.few) }

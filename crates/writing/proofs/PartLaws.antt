@@ -5,7 +5,6 @@ use mathlib.Core.Path.{◌≡◌, refl, sym, ap, ◌∙◌}
 use mathlib.Core.Bool.{Bool, true, false, cond}
 use mathlib.Core.List.{List, [], ◌∷◌, ◌++◌, map, append_assoc, append-nil}
 use native.Mathlib.Nat.{suc-mul, mul-le-mul_right}
-use native.Mathlib.Numerals.{add-one}
 use native.Mathlib.Omega.{arith}
 use lib.IntN.{ℤ, pos, negsuc, nat_abs}
 use lib.ListN.{length, get_or, length-append}
@@ -23,11 +22,7 @@ use Rattle.format.specs.Forms.{decimal, signed, literal_bytes, term_bytes, pair_
 use Rattle.printing.specs.internal.Putting.{Puts, max_printed}
 use Rattle.printing.proofs.PutLaws.{puts_then, puts_behind}
 use Rattle.writing.specs.BookForms.{marked_atom, marked_atoms, defined_forms, pairs_of, literal_text, term_text, claimed_pair}
-use Rattle.writing.specs.internal.Parts.{term_part, level_part, pair_part, mark_part, line_of}
-
--- What ends a line of parts: the closing bracket and the byte after it.
-abbrev pub line_close : List ℕ
-line_close = closing ∷ line_end ∷ []
+use Rattle.writing.specs.internal.Parts.{line_close, term_part, level_part, pair_part, mark_part, line_of}
 
 -- ── Joined parts ──
 
@@ -204,9 +199,6 @@ minutes_most : (z : ℤ) → SFits w16 z → nat_abs z ≤ max_printed
 minutes_most (pos n) fits = omega arith
 minutes_most (negsuc n) fits = omega arith
 
-pub minutes_fit_lem : {z : ℤ} → SFits w16 z → SFits w32 (to_z w16 (of_z w16 z))
-minutes_fit_lem fits = rw (to_z-of_z fits) (sfits_widen tt fits)
-
 pub minutes_printed : {z : ℤ} → SFits w16 z → nat_abs (to_z w32 (of_z w32 (to_z w16 (of_z w16 z)))) ≤ max_printed
 minutes_printed {z} fits = rw (widened fits) (minutes_most z fits)
 
@@ -235,19 +227,10 @@ module _ (load_literals : List ℕ) (minutes : List ℤ) (place : ℕ) where
   puts_term p q u w =
       puts_behind (space ∷ opening ∷ []) (signed (get_or minutes place (pos 0))) (puts_then p q) (puts_behind (space ∷ []) _ u w)
 
--- The place of an atom's level in a group is among the levels, and one group on lies as many places further as there are atoms.
+-- The levels of a group are among those of all groups.
 module _ (atoms groups group : ℕ) where
   pub group_inside : group < groups → group * atoms + atoms ≤ groups * atoms
   group_inside l = omega (arith, suc-mul group atoms, mul-le-mul_right {m = suc group} {n = groups} atoms (omega arith))
-
-  pub group_next : (atom : ℕ) → (group + 1) * atoms + atom ≡ group * atoms + atom + atoms
-  group_next atom = rw (add-one group, suc-mul group atoms) (omega arith)
-
-pub level_here :
-    (atoms : ℕ) (levels : List ℕ) (atom group : ℕ) {place : ℕ} → place ≡ group * atoms + atom →
-    space ∷ decimal (get_or levels place 0) ≡ level_part atoms levels atom group
-unfolding level_part
-level_here atoms levels atom group e = rw e
 
 -- `(V K ..)` behind a space.
 module _ (atoms groups : ℕ) (values levels : List ℕ) (atom : ℕ) where

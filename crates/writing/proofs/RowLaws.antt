@@ -1,6 +1,6 @@
 -- The lines of rows: the literals or the terms of a row by the parts that are put, the line of a row, and the lines of all rows.
 -- Assumes nothing.
-use Prim.Native.Nat.{ℕ, zero, suc, ◌+◌, ◌-◌, ◌≤◌, ◌<◌}
+use Prim.Native.Nat.{ℕ, zero, suc, ◌+◌, ◌-◌, ◌≤◌}
 use mathlib.Core.Path.{◌≡◌, refl, ap, ◌∙◌, fun_ext}
 use mathlib.Core.List.{List, [], ◌∷◌, ◌++◌, map, append_assoc}
 use native.Mathlib.Omega.{arith}
@@ -20,10 +20,9 @@ use Rattle.format.specs.Forms.{space, line_end, rule_word, clause_word, load_wor
 use Rattle.format.specs.Forms.{decimal, signed, literal_bytes, term_bytes, render, render_all}
 use Rattle.printing.specs.internal.Putting.{Puts, max_printed}
 use Rattle.printing.proofs.PutLaws.{puts_then, puts_behind}
-use Rattle.printing.proofs.Joining.{Joined, joined_fits, joined_end}
 use Rattle.writing.specs.BookForms.{literal_text, term_text, rule_form_of, clause_form_of, load_form_of}
-use Rattle.writing.specs.internal.Parts.{literal_part, term_part, line_of, body_bytes, terms_bytes, rule_line, clause_line, load_line}
-use Rattle.writing.proofs.PartLaws.{line_close, parts_line, lines_joined, map_tabulate}
+use Rattle.writing.specs.internal.Parts.{line_close, literal_part, term_part, line_of, body_bytes, terms_bytes, rule_line, clause_line, load_line}
+use Rattle.writing.proofs.PartLaws.{parts_line, lines_joined, map_tabulate}
 
 -- ── The literals of a row ──
 
@@ -38,9 +37,6 @@ take_tabulate (suc n) (x ∷ l) h = ap (λ (m : List ℕ). x ∷ m) (take_tabula
 abbrev pub from : {A : Type 0} → ℕ → List A → List A
 from start table = take (length table - start) (drop start table)
 
-pub from_within : {A : Type 0} (table : List A) (start size : ℕ) → start + size ≤ length table → size ≤ length (from start table)
-from_within table start size within = rw (part_is table start, length-drop) (omega arith)
-
 module _ (literals : List ℕ) (start size : ℕ) (within : start + size ≤ length literals) where
   body_entries : body_at literals start size ≡ tabulate size (λ k. get_or (drop start literals) k 0)
   unfolding body_at
@@ -52,9 +48,6 @@ module _ (literals : List ℕ) (start size : ℕ) (within : start + size ≤ len
   body_joined =
       rw (part_is literals start, body_entries, map_tabulate literal_text size (λ k. get_or (drop start literals) k 0))
       (parts_line literal_bytes size (λ k. literal_text (get_or (drop start literals) k 0)))
-
-  pub body_length : length (body_bytes literals start size) ≡ length (join_below size (literal_part (from start literals))) + 2
-  body_length = ap length body_joined ∙ length-append (join_below size (literal_part (from start literals))) line_close
 
 -- ── The terms of a row ──
 
@@ -70,11 +63,6 @@ module _ (load_literals : List ℕ) (minutes : List ℤ) (start size : ℕ) wher
       let term = term_at (drop start load_literals) (drop start minutes) in
       rw (part_is load_literals start, part_is minutes start, terms_entries, map_tabulate term_text size term)
       (parts_line term_bytes size (λ k. term_text (term k)))
-
-  pub terms_length :
-      length (terms_bytes load_literals minutes start size)
-      ≡ length (join_below size (term_part (from start load_literals) (from start minutes))) + 2
-  terms_length = ap length terms_joined ∙ length-append (join_below size (term_part (from start load_literals) (from start minutes))) line_close
 
 -- ── The line of a row ──
 
@@ -150,7 +138,10 @@ module _ (loads : List ℤ) (load_literals : List ℕ) (minutes : List ℤ) (row
 
   -- Behind its bounds the line has two bytes at least, those that end it.
   pub load_least : 9 + (length (signed (load_low loads row)) + length (signed (load_high loads row))) ≤ length (load_line loads load_literals minutes row)
-  load_least = omega (arith, load_length refl refl, terms_length load_literals minutes (load_start loads row) (load_size loads row))
+  load_least =
+      let ended = ap length (terms_joined load_literals minutes (load_start loads row) (load_size loads row)) in
+      let long = rw length-append at ended in
+      omega (arith, load_length refl refl, long)
 
   pub puts_load :
       {l m r s t u : List ℕ} {at mid next last further end start size : ℕ} → start ≡ load_start loads row →
@@ -179,14 +170,3 @@ pub loads_joined :
     render_all (map load_form_of (loads_of loads load_literals minutes)) ≡ join_below (load_count loads) (load_line loads load_literals minutes)
 unfolding loads_of load_line
 loads_joined loads load_literals minutes = lines_joined load_form_of (load_count loads) (load_at loads load_literals minutes)
-
--- While the lines of rows are put: there is room for the next, and at the end all are there.
-pub rows_room :
-    {l m text : List ℕ} {at next : ℕ} (row count : ℕ) (f : ℕ → List ℕ) → text ≡ join_below count f → row < count →
-    at + length text ≤ length l → Joined l at f row next m → next + length (f row) ≤ length m
-rows_room {l} {m} {text} {at} {next} row count f e h room p = joined_fits l m at row count next f h (rw e at room) p
-
-pub rows_end :
-    {l m text : List ℕ} {at next : ℕ} (row count : ℕ) (f : ℕ → List ℕ) → text ≡ join_below count f → count ≤ row → row ≤ count →
-    Joined l at f row next m → Puts l at text next m
-rows_end {l} {m} {text} {at} {next} row count f e h k p = rw e (joined_end l m at row count next f h k p)

@@ -2,20 +2,21 @@
 -- Assumes nothing.
 use Prim.Native.Nat.{ℕ, ◌+◌}
 use mathlib.Core.Path.{◌≡◌, refl, ap, ◌∙◌}
-use mathlib.Core.List.{List, [], ◌∷◌, ◌++◌, map, append_assoc}
+use mathlib.Core.List.{List, [], ◌∷◌, ◌++◌, append_assoc}
 use lib.IntN.{ℤ}
 use lib.ListN.{length, length-append}
 use Rattle.wellfounded.specs.Lists.{count, join_below}
-use Rattle.tables.specs.Rows.{rules_of, clauses_of}
-use Rattle.tables.specs.Loads.{loads_of}
+use Rattle.tables.specs.Rows.{rule_count, clause_count}
+use Rattle.tables.specs.Loads.{load_count}
 use Rattle.tables.specs.Sound.{Tables}
 use Rattle.tables.specs.internal.Marks.{is_marked}
 use Rattle.format.specs.Forms.{atoms_form, claim_form, space, atoms_word, claim_word, defined_word, decimal, render, render_all}
 use Rattle.printing.specs.internal.Putting.{Puts}
 use Rattle.printing.proofs.PutLaws.{puts_then}
-use Rattle.writing.specs.BookForms.{rule_form_of, clause_form_of, load_form_of, marked_atoms, defined_forms, pairs_of, book_forms, text_of}
-use Rattle.writing.specs.internal.Parts.{pair_part, mark_part, line_of, rows_text}
-use Rattle.writing.proofs.PartLaws.{line_close, claim_line_lem, defined_line_lem, text_first, text_one, text_append}
+use Rattle.writing.specs.BookForms.{marked_atoms, defined_forms, pairs_of, book_forms, text_of}
+use Rattle.writing.specs.internal.Parts.{line_close, pair_part, mark_part, line_of, rows_text, rule_line, clause_line, load_line}
+use Rattle.writing.proofs.PartLaws.{claim_line_lem, defined_line_lem, text_first, text_one, text_append}
+use Rattle.writing.proofs.RowLaws.{rules_joined, clauses_joined, loads_joined}
 
 -- ── Three parts ──
 
@@ -47,12 +48,15 @@ pub defined_parts :
     Parted (render_all (defined_forms (marked_atoms n marks))) defined_word (join_below n (mark_part marks)) line_close
 defined_parts n marks some = record { is = defined_line_lem marks n some }
 
+-- The lines of all rows, of which the code has read how many there are.
 pub rows_parts :
-    (rules literals clauses : List ℕ) (loads : List ℤ) (load_literals : List ℕ) (minutes : List ℤ) →
-    Parted (rows_text rules literals clauses loads load_literals minutes) (render_all (map rule_form_of (rules_of rules literals)))
-    (render_all (map clause_form_of (clauses_of clauses literals))) (render_all (map load_form_of (loads_of loads load_literals minutes)))
+    (rules literals clauses : List ℕ) (loads : List ℤ) (load_literals : List ℕ) (minutes : List ℤ) {ruled claused loaded : ℕ} →
+    ruled ≡ rule_count rules → claused ≡ clause_count clauses → loaded ≡ load_count loads →
+    Parted (rows_text rules literals clauses loads load_literals minutes) (join_below ruled (rule_line rules literals))
+    (join_below claused (clause_line clauses literals)) (join_below loaded (load_line loads load_literals minutes))
 unfolding rows_text
-rows_parts rules literals clauses loads load_literals minutes = record { is = refl }
+rows_parts rules literals clauses loads load_literals minutes r k l =
+    record { is = rw (r, k, l, rules_joined rules literals, clauses_joined clauses literals, loads_joined loads load_literals minutes) refl }
 
 -- ── The text ──
 

@@ -14,8 +14,8 @@ use borrow.Author.Tests.{eqb-true, leb-true, le-leb, not-false}
 use Rattle.wellfounded.specs.Lists.{all}
 use Rattle.wellfounded.proofs.Tests.{both, first, second, either}
 use Rattle.tables.specs.declared.Fault.{Fault}
-use Rattle.tables.specs.declared.Verdict.{Verdict}
-use Rattle.tables.specs.declared.Verdict.TheVariants.{Accepted, Refused}
+use Rattle.std.specs.declared.result.Result.TheVariants.{Ok, Err}
+use Rattle.tables.specs.Faults.{Verdict, accepted, refused}
 use Rattle.tables.specs.Limits.{max_literals, max_position}
 use Rattle.tables.specs.Faults.{Absent, RefusedBy, fault_number, position_of}
 use Rattle.tables.specs.Sound.{Tables, claim_slices, table_tests, slice_test, mark_count_test, mark_test, lent_tests, Sound}
@@ -23,7 +23,7 @@ use Rattle.tables.proofs.Faults.{absent_none, absent_more, accepted_absent, abse
 use Rattle.tables.proofs.Positions.{position_more, position_none, lent_position}
 use Rattle.judging.specs.Judging.{max_bytes}
 use Rattle.writing.specs.BookForms.{text_of}
-use Rattle.writing.specs.Writing.{literals_by_row, rows_fit, bytes_fit, text_test, write_tests, write_of, written_of, TextFits}
+use Rattle.writing.specs.Writing.{literals_by_row, rows_fit, bytes_fit, text_test, write_tests, write_of, written_of, TextFits, length_in}
 
 module _ (t : Tables) (values levels : List ℕ) (room : ℕ) where
   -- 32 does not occur exactly if literals, terms and bytes are within the limits of a text, and the bytes within the buffer.
@@ -50,18 +50,18 @@ module _ (t : Tables) (values levels : List ℕ) (room : ℕ) where
           }
 
   -- A text is written exactly if nothing that is lent has a fault of 11 to 17 or of 31, and 32 does not occur.
-  pub written_exactly : (write_of t values levels room ≡ Accepted) ↔ (Sound t (claim_slices t values levels) × TextFits t values levels room)
+  pub written_exactly : (write_of t values levels room ≡ accepted) ↔ (Sound t (claim_slices t values levels) × TextFits t values levels room)
   unfolding write_of write_tests
   written_exactly = (taken, make)
     where
-      taken : write_of t values levels room ≡ Accepted → Sound t (claim_slices t values levels) × TextFits t values levels room
+      taken : write_of t values levels room ≡ accepted → Sound t (claim_slices t values levels) × TextFits t values levels room
       taken e =
           let none = accepted_absent (write_tests t values levels room) e in (
             record { none = λ test m. none test (Memᴰ.append_left _ m) },
             text_fits.0 (none _ (Memᴰ.append_right (lent_tests t (claim_slices t values levels)) (Memᴰ.head refl))),
           )
 
-      make : Sound t (claim_slices t values levels) × TextFits t values levels room → write_of t values levels room ≡ Accepted
+      make : Sound t (claim_slices t values levels) × TextFits t values levels room → write_of t values levels room ≡ accepted
       make h =
           first_append (lent_tests t (claim_slices t values levels)) _ (absent_accepted _ h.0.none)
           ∙ absent_accepted _ (absent_more (text_fits.1 h.1) absent_none)
@@ -70,7 +70,7 @@ module _ (t : Tables) (values levels : List ℕ) (room : ℕ) where
   -- `write_tests` occurs.
   pub refused_exactly :
       (fault : Fault) (position : ℕ) →
-      (write_of t values levels room ≡ Refused fault position) ↔ RefusedBy (write_tests t values levels room) fault position
+      (write_of t values levels room ≡ refused fault position) ↔ RefusedBy (write_tests t values levels room) fault position
   unfolding write_of
   refused_exactly fault position = (refused_by (write_tests t values levels room) fault position, by_refused (write_tests t values levels room) fault position)
 
@@ -79,20 +79,20 @@ module _ (t : Tables) (values levels : List ℕ) (room : ℕ) where
   unfolding write_of write_tests text_test
   written_position = lent_position t _ _ (λ z. position_more _ _ (omega arith) (λ a. position_none))
 
-  pub written_length : (written_of (write_of t values levels room) (text_of t values levels)).length ≤ max_bytes
+  pub written_length : length_in (written_of (write_of t values levels room) (text_of t values levels)) ≤ max_bytes
   unfolding written_of
   written_length = by (write_of t values levels room) (λ e. (written_exactly.0 e).1.short)
     where
-      by : (v : Verdict) → (v ≡ Accepted → length (text_of t values levels) ≤ max_bytes) → (written_of v (text_of t values levels)).length ≤ max_bytes
-      by Accepted short = short refl
-      by (Refused fault position) short = omega arith
+      by : (v : Verdict) → (v ≡ accepted → length (text_of t values levels) ≤ max_bytes) → length_in (written_of v (text_of t values levels)) ≤ max_bytes
+      by (Ok nothing) short = short refl
+      by (Err refusal) short = omega arith
 
 -- A refusal of the writer has a number of 11 to 17, 31 or 32; so none judges a value or a level (21, 22).
 abbrev writers_fault : Fault → Bool
 writers_fault fault = (leb 11 (fault_number fault) && leb (fault_number fault) 17) || (eqb (fault_number fault) 31 || eqb (fault_number fault) 32)
 
 pub written_faults :
-    (t : Tables) (values levels : List ℕ) (room : ℕ) (fault : Fault) (position : ℕ) → write_of t values levels room ≡ Refused fault position →
+    (t : Tables) (values levels : List ℕ) (room : ℕ) (fault : Fault) (position : ℕ) → write_of t values levels room ≡ refused fault position →
     ((11 ≤ fault_number fault) × (fault_number fault ≤ 17)) ⊎ ((fault_number fault ≡ 31) ⊎ (fault_number fault ≡ 32))
 unfolding write_of write_tests lent_tests table_tests slice_test mark_count_test mark_test text_test all
 written_faults t values levels room fault position e =

@@ -2,8 +2,10 @@
 use Rattle.std.specs.Prelude.{ℕ, ◌+◌, ◌≤◌, ◌≡◌, Bool, not, ◌&&◌, List, [], ◌∷◌, ◌++◌, leb, ℤ, length}
 use Rattle.wellfounded.specs.Lists.{sum_below}
 use Rattle.tables.specs.declared.Fault.TheVariants.{TextSize}
-use Rattle.tables.specs.declared.Verdict.{Verdict}
-use Rattle.tables.specs.declared.Verdict.TheVariants.{Accepted, Refused}
+use Rattle.std.specs.declared.result.Result.{Result}
+use Rattle.std.specs.declared.result.Result.TheVariants.{Ok, Err}
+use Rattle.tables.specs.declared.Refusal.{Refusal}
+use Rattle.tables.specs.Faults.{Verdict, accepted}
 use Rattle.tables.specs.Limits.{max_literals, max_terms}
 use Rattle.tables.specs.Faults.{Test, first_fault}
 use Rattle.tables.specs.Rows.{literals_by_rule, clause_count, clause_size}
@@ -11,7 +13,6 @@ use Rattle.tables.specs.Loads.{load_count, load_size}
 use Rattle.tables.specs.Sound.{Tables, claim_slices, lent_tests}
 use Rattle.judging.specs.Judging.{max_bytes}
 use Rattle.forms.specs.Contents.{over}
-use Rattle.writing.specs.declared.Written.{Written}
 use Rattle.writing.specs.BookForms.{text_of}
 
 -- The literals of rules and clauses, and the terms of load lines, counted by row: what rows share counts for each of them.
@@ -43,15 +44,27 @@ write_tests t values levels room = lent_tests t (claim_slices t values levels) +
 unfoldable pub write_of : Tables → List ℕ → List ℕ → ℕ → Verdict
 write_of t values levels room = first_fault (write_tests t values levels room)
 
--- The answer: the verdict and the length of the text, 0 if refused.
+-- The answer: the length of the text, or the refusal.
+abbrev pub Written : Type 0
+Written = Result ℕ Refusal
+
 unfoldable pub written_of : Verdict → List ℕ → Written
-written_of Accepted text = record { verdict = Accepted; length = length text }
-written_of (Refused fault position) text = record { verdict = Refused fault position; length = 0 }
+written_of (Ok nothing) text = Ok (length text)
+written_of (Err refusal) text = Err refusal
+
+-- The verdict that an answer tells, and the length that it tells: 0 if refused.
+abbrev pub verdict_in : Written → Verdict
+verdict_in (Ok long) = accepted
+verdict_in (Err refusal) = Err refusal
+
+abbrev pub length_in : Written → ℕ
+length_in (Ok long) = long
+length_in (Err refusal) = 0
 
 -- The buffer afterwards: the text, followed by what it held; a refusal writes nothing.
 unfoldable pub buffer_after : Verdict → List ℕ → List ℕ → List ℕ
-buffer_after Accepted text held = over text held
-buffer_after (Refused fault position) text held = held
+buffer_after (Ok nothing) text held = over text held
+buffer_after (Err refusal) text held = held
 
 -- What `write` promises of its answer and of the buffer afterwards.
 pub record Writes (t : Tables) (values levels before : List ℕ) (answer : Written) (afterwards : List ℕ) : Type 0 where

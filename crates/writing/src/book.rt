@@ -8,10 +8,13 @@ ghost use Rattle.writing.specs.BookForms.{marked_atoms, defined_forms, pairs_of,
 ghost use Rattle.writing.specs.internal.Parts.{line_of, rows_text};
 ghost use Rattle.writing.specs.internal.Lent.{RulesLie, ClausesLie, LoadsLie, Puttable};
 
-use super::parts::{put_marks, put_pairs};
-use super::rows::{put_clauses, put_loads, put_rules};
+use super::each::{put_each, put_line};
+use super::parts::{Marks, Pairs};
+use super::rows::{Clauses, Loads, Rules};
 use printing::{put, put_decimal};
+use tables::load_rows::load_count;
 use tables::marks::count_marked;
+use tables::rows::{clause_count, rule_count};
 
 // Puts the line of the number of atoms.
 fn put_atoms(text: &mut [u8], at: usize, atoms: usize) -> usize
@@ -34,8 +37,7 @@ fn put_defined(text: &mut [u8], at: usize, marks: &[u8]) -> usize
         return at;
     }
     let begun = put(text, at, b"(defined");
-    let named = put_marks(text, begun, marks);
-    put(text, named, b")\n")
+    put_line(text, begun, &Marks { marks }, marks.len())
 }
 
 // Puts the line of the claim.
@@ -46,8 +48,12 @@ fn put_claim(text: &mut [u8], at: usize, groups: usize, values: &[u8], levels: &
         (line_of (claim_form (pairs_of (length values.now) groups values.now levels.now))) result text.new }
 {
     let begun = put(text, at, b"(claim");
-    let paired = put_pairs(text, begun, groups, values, levels);
-    put(text, paired, b")\n")
+    let pairs = Pairs {
+        groups,
+        values,
+        levels,
+    };
+    put_line(text, begun, &pairs, values.len())
 }
 
 // Puts the lines of rules, clauses and load rows.
@@ -69,9 +75,19 @@ fn put_rows(
         (rows_text rules.now literals.now clauses.now loads.now load_literals.now
         minutes.now) result text.new }
 {
-    let ruled = put_rules(text, at, rules, literals);
-    let claused = put_clauses(text, ruled, clauses, literals);
-    put_loads(text, claused, loads, load_literals, minutes)
+    let ruled = put_each(text, at, &Rules { rules, literals }, rule_count(rules));
+    let claused = put_each(
+        text,
+        ruled,
+        &Clauses { clauses, literals },
+        clause_count(clauses),
+    );
+    let lines = Loads {
+        loads,
+        load_literals,
+        minutes,
+    };
+    put_each(text, claused, &lines, load_count(loads))
 }
 
 // Puts the text of a book and a claim, and answers how long it is.

@@ -2,7 +2,6 @@
 #![tactic(auto)]
 
 ghost use Rattle.std.specs.Prelude.{◌≡◌, [], ◌∷◌, length};
-ghost use Rattle.tables.specs.declared.Verdict.TheVariants.{Refused};
 ghost use Rattle.tables.specs.Faults.{first_fault};
 ghost use Rattle.tables.specs.Sound.{lent, mark_test};
 ghost use Rattle.writing.specs.BookForms.{text_of};
@@ -11,6 +10,7 @@ ghost use Rattle.writing.specs.internal.Answered.{WritesAs};
 ghost use Rattle.writing.specs.internal.Lent.{Lent};
 
 mod book;
+mod each;
 mod lengths;
 mod parts;
 mod rows;
@@ -18,28 +18,11 @@ mod totals;
 
 use book::put_book;
 use lengths::book_length;
-use tables::refusals::first_refusal;
+use tables::refusals::{first_refusal, require};
 use tables::sizes::{MAX_BYTES, table_fault};
 use tables::values::not_held_atom;
-use tables::{Fault, Verdict};
+use tables::{Fault, Refusal};
 use totals::rows_fit;
-
-// The verdict, and the length of the text: 0 where nothing was written.
-#[derive(Drop)]
-pub struct Written {
-    pub verdict: Verdict,
-    pub length: usize,
-}
-
-// The answer where nothing was written.
-fn refused(fault: Fault, position: usize) -> Written
-    ensures { (result.verdict ≡ Refused fault position) × (result.length ≡ 0) }
-{
-    Written {
-        verdict: Verdict::Refused(fault, position),
-        length: 0,
-    }
-}
 
 // Whether so many bytes are within the limit of a text and within the buffer.
 fn bytes_fit(bytes: usize, room: usize) -> bool
@@ -60,7 +43,7 @@ fn write_lent(
     values: &[u8],
     levels: &[u16],
     text: &mut [u8],
-) -> Written
+) -> Result<usize, Refusal>
     requires { Lent
         (lent (length values.now) rules.now literals.now clauses.now loads.now load_literals.now minutes.now marks.now)
         values.now levels.now }
@@ -75,12 +58,8 @@ fn write_lent(
         load_literals.now minutes.now marks.now) values.now levels.now)
         text.old result text.new }
 {
-    let mark = not_held_atom(marks);
     let fit = rows_fit(rules, clauses, loads);
-    let early = first_refusal(mark, fit, Fault::TextSize);
-    if let Verdict::Refused(fault, position) = early {
-        return refused(fault, position);
-    }
+    first_refusal(not_held_atom(marks), fit, Fault::TextSize)?;
     let length = book_length(
         rules,
         literals,
@@ -92,9 +71,7 @@ fn write_lent(
         values,
         levels,
     );
-    if !bytes_fit(length, text.len()) {
-        return refused(Fault::TextSize, 0);
-    }
+    require(bytes_fit(length, text.len()), Fault::TextSize)?;
     put_book(
         text,
         rules,
@@ -107,10 +84,7 @@ fn write_lent(
         values,
         levels,
     );
-    Written {
-        verdict: Verdict::Accepted,
-        length,
-    }
+    Ok(length)
 }
 
 // Writes the text of a book and a claim to the front of a buffer, and answers its length. Beyond the text the buffer keeps what it
@@ -127,13 +101,13 @@ pub fn write(
     values: &[u8],
     levels: &[u16],
     text: &mut [u8],
-) -> Written
+) -> Result<usize, Refusal>
     ensures { Writes
         (lent atoms rules.now literals.now clauses.now loads.now load_literals.now
         minutes.now marks.now)
         values.now levels.now text.old result text.new }
 {
-    let verdict = table_fault(
+    table_fault(
         atoms,
         rules,
         literals,
@@ -141,19 +115,10 @@ pub fn write(
         loads,
         load_literals,
         minutes,
-    );
-    if let Verdict::Refused(_, _) = verdict {
-        return Written { verdict, length: 0 };
-    }
-    if values.len() != atoms {
-        return refused(Fault::SliceLength, 0);
-    }
-    if levels.len() != atoms {
-        return refused(Fault::SliceLength, 0);
-    }
-    if marks.len() != atoms {
-        return refused(Fault::Mark, 0);
-    }
+    )?;
+    require(values.len() == atoms, Fault::SliceLength)?;
+    require(levels.len() == atoms, Fault::SliceLength)?;
+    require(marks.len() == atoms, Fault::Mark)?;
     write_lent(
         rules,
         literals,

@@ -1,13 +1,14 @@
-// The parts of a line, each after its space. Each function puts its bytes at an offset where there is room for them, and answers the offset after them.
+// The parts of a line, each after its space: how they are put, and how long they are. Widths are added without a branch, so that many are added at a
+// time.
 ghost use Rattle.std.specs.Prelude.{◌≡◌, ◌∷◌, ◌+◌, ◌*◌, ◌≤◌, ◌<◌, length};
-ghost use Rattle.wellfounded.specs.Lists.{join_below};
-ghost use Rattle.format.specs.Forms.{space, decimal, literal_bytes};
-ghost use Rattle.tables.specs.Limits.{max_atoms};
+ghost use Rattle.format.specs.Forms.{space, literal_bytes};
 ghost use Rattle.printing.specs.internal.Putting.{Puts, max_printed};
 ghost use Rattle.writing.specs.BookForms.{literal_text};
 ghost use Rattle.writing.specs.internal.Parts.{literal_part, term_part, level_part, pair_part, mark_part};
+ghost use Rattle.writing.specs.internal.Counting.{Counts, max_groups};
 
-use printing::{put, put_decimal, put_signed};
+use super::each::{Parts, each_length, put_each};
+use printing::{put, put_decimal, put_signed, signed_width, width};
 
 // Puts a space and a literal: its atom, or `(not A)`.
 fn put_literal(text: &mut [u8], at: usize, literal: u16) -> usize
@@ -24,154 +25,148 @@ fn put_literal(text: &mut [u8], at: usize, literal: u16) -> usize
     put(text, named, b")")
 }
 
-// Puts the first `size` literals.
-pub fn put_literals(text: &mut [u8], at: usize, literals: &[u16], size: usize) -> usize
-    requires { (size ≤ length literals.now) × (at + length (join_below size (literal_part literals.now)) ≤ length text.old) }
-    ensures { Puts text.old at (join_below size (literal_part literals.now)) result text.new }
+// A literal and the space before it: `(not A)` is six bytes longer than `A`.
+fn literal_length(literal: u16) -> usize
+    ensures { Counts (space ∷ literal_bytes (literal_text literal)) 14 result }
 {
-    let mut next = at;
-    let mut place = 0;
-    while place < size {
-        next = put_literal(text, next, literals[place]);
-        place += 1;
+    1 + width((literal / 2) as usize) + 6 * (literal % 2) as usize
+}
+
+// Literals.
+#[derive(Drop)]
+pub struct Literals<'a> {
+    pub literals: &'a [u16],
+}
+
+impl Parts for Literals<'_> {
+    ghost part = { λ s. literal_part s.literals.now };
+
+    ghost has = { λ s place. place < length s.literals.now };
+
+    ghost most = { 14 };
+
+    fn put(&self, text: &mut [u8], at: usize, place: usize) -> usize {
+        put_literal(text, at, self.literals[place])
     }
-    next
-}
 
-// Puts the term at a place: `(M L)`.
-fn put_term(
-    text: &mut [u8],
-    at: usize,
-    load_literals: &[u16],
-    minutes: &[i16],
-    place: usize,
-) -> usize
-    requires place_in_bounds { (place < length load_literals.now) × (place < length minutes.now) }
-    requires place_in_bounds_2 { at + length (term_part load_literals.now minutes.now place) ≤ length text.old }
-    ensures { Puts text.old at (term_part load_literals.now minutes.now place) result text.new }
-{
-    let opened = put(text, at, b" (");
-    let counted = put_signed(text, opened, minutes[place] as i32);
-    let named = put_literal(text, counted, load_literals[place]);
-    put(text, named, b")")
-}
-
-// Puts the first `size` terms.
-pub fn put_terms(
-    text: &mut [u8],
-    at: usize,
-    load_literals: &[u16],
-    minutes: &[i16],
-    size: usize,
-) -> usize
-    requires size_in_bounds { (size ≤ length load_literals.now) × (size ≤ length minutes.now) }
-    requires minutes_in_bounds { at + length (join_below size (term_part load_literals.now minutes.now)) ≤ length text.old }
-    ensures { Puts text.old at (join_below size (term_part load_literals.now minutes.now)) result
-        text.new }
-{
-    let mut next = at;
-    let mut place = 0;
-    while place < size {
-        next = put_term(text, next, load_literals, minutes, place);
-        place += 1;
+    fn length(&self, place: usize) -> usize {
+        literal_length(self.literals[place])
     }
-    next
 }
 
-// Puts a space and a level.
-fn put_level(text: &mut [u8], at: usize, level: u16) -> usize
-    requires { at + length (decimal level) < length text.old }
-    ensures { Puts text.old at (space ∷ decimal level) result text.new }
-{
-    let begun = put(text, at, b" ");
-    put_decimal(text, begun, level as usize)
+// Terms: each is `(M L)`.
+#[derive(Drop)]
+pub struct Terms<'a> {
+    pub load_literals: &'a [u16],
+    pub minutes: &'a [i16],
 }
 
-// Puts the levels of an atom, one for each group.
-fn put_levels(
-    text: &mut [u8],
-    at: usize,
-    groups: usize,
-    atoms: usize,
-    levels: &[u16],
-    atom: usize,
-) -> usize
-    requires atom_lt_atoms { (atom < atoms) × (length levels.now ≡ groups * atoms) }
-    requires atom_in_bounds { at + length (join_below groups (level_part atoms levels.now atom)) ≤ length text.old }
-    ensures { Puts text.old at (join_below groups (level_part atoms levels.now atom)) result text.new }
-{
-    let mut next = at;
-    let mut group = 0;
-    let mut place = atom;
-    while group < groups {
-        next = put_level(text, next, levels[place]);
-        group += 1;
-        place += atoms;
+impl Parts for Terms<'_> {
+    ghost part = { λ s. term_part s.load_literals.now s.minutes.now };
+
+    ghost has = { λ s place. (place < length s.load_literals.now) × (place < length s.minutes.now) };
+
+    ghost most = { 25 };
+
+    fn put(&self, text: &mut [u8], at: usize, place: usize) -> usize {
+        let opened = put(text, at, b" (");
+        let counted = put_signed(text, opened, self.minutes[place] as i32);
+        let named = put_literal(text, counted, self.load_literals[place]);
+        put(text, named, b")")
     }
-    next
-}
 
-// Puts the pair of an atom: `(V K ..)`.
-fn put_pair(
-    text: &mut [u8],
-    at: usize,
-    groups: usize,
-    values: &[u8],
-    levels: &[u16],
-    atom: usize,
-) -> usize
-    requires atom_in_bounds { (atom < length values.now) × (length levels.now ≡ groups * length values.now) }
-    requires atom_in_bounds_2 { at + length (pair_part (length values.now) groups values.now levels.now atom) ≤ length text.old }
-    ensures { Puts text.old at
-        (pair_part (length values.now) groups values.now levels.now atom) result text.new }
-{
-    let opened = put(text, at, b" (");
-    let valued = put_decimal(text, opened, values[atom] as usize);
-    let levelled = put_levels(text, valued, groups, values.len(), levels, atom);
-    put(text, levelled, b")")
-}
-
-// Puts the pairs of all atoms.
-pub fn put_pairs(text: &mut [u8], at: usize, groups: usize, values: &[u8], levels: &[u16]) -> usize
-    requires levels_len { length levels.now ≡ groups * length values.now }
-    requires levels_in_bounds { at + length (join_below (length values.now) (pair_part (length values.now) groups values.now levels.now)) ≤ length text.old }
-    ensures { Puts text.old at
-        (join_below (length values.now) (pair_part (length values.now) groups values.now levels.now)) result
-        text.new }
-{
-    let mut next = at;
-    let mut atom = 0;
-    while atom < values.len() {
-        next = put_pair(text, next, groups, values, levels, atom);
-        atom += 1;
+    fn length(&self, place: usize) -> usize {
+        3 + signed_width(self.minutes[place] as i32) + literal_length(self.load_literals[place])
     }
-    next
 }
 
-// Puts an atom if it is marked.
-fn put_mark(text: &mut [u8], at: usize, marks: &[u8], atom: usize) -> usize
-    requires atom_in_bounds { (atom < length marks.now) × (atom ≤ max_printed) }
-    requires atom_in_bounds_2 { at + length (mark_part marks.now atom) ≤ length text.old }
-    ensures { Puts text.old at (mark_part marks.now atom) result text.new }
-{
-    if marks[atom] != 1 {
-        return at;
-    }
-    let begun = put(text, at, b" ");
-    put_decimal(text, begun, atom)
+// The levels of an atom, one for each group.
+#[derive(Drop)]
+pub struct Levels<'a> {
+    pub atoms: usize,
+    pub levels: &'a [u16],
+    pub atom: usize,
 }
 
-// Puts the marked atoms.
-pub fn put_marks(text: &mut [u8], at: usize, marks: &[u8]) -> usize
-    requires { (length marks.now ≤ max_atoms) × (at + length (join_below (length marks.now) (mark_part marks.now)) ≤ length text.old) }
-    ensures { Puts text.old at (join_below (length marks.now) (mark_part marks.now)) result
-        text.new }
-{
-    let mut next = at;
-    let mut atom = 0;
-    while atom < marks.len() {
-        next = put_mark(text, next, marks, atom);
-        atom += 1;
+impl Parts for Levels<'_> {
+    ghost part = { λ s. level_part s.atoms s.levels.now s.atom };
+
+    ghost has = { λ s group. group * s.atoms + s.atom < length s.levels.now };
+
+    ghost most = { 8 };
+
+    fn put(&self, text: &mut [u8], at: usize, group: usize) -> usize {
+        let level = self.levels[group * self.atoms + self.atom];
+        let begun = put(text, at, b" ");
+        put_decimal(text, begun, level as usize)
     }
-    next
+
+    fn length(&self, group: usize) -> usize {
+        1 + width(self.levels[group * self.atoms + self.atom] as usize)
+    }
+}
+
+// The pairs of the atoms: each is `(V K ..)`.
+#[derive(Drop)]
+pub struct Pairs<'a> {
+    pub groups: usize,
+    pub values: &'a [u8],
+    pub levels: &'a [u16],
+}
+
+impl Parts for Pairs<'_> {
+    ghost part = { λ s. pair_part (length s.values.now) s.groups s.values.now s.levels.now };
+
+    ghost has = { λ s atom. (atom < length s.values.now) × (length s.levels.now ≡ s.groups * length s.values.now) };
+
+    ghost countable = { λ s. s.groups ≤ max_groups };
+
+    ghost most = { 10 + 8 * max_groups };
+
+    fn put(&self, text: &mut [u8], at: usize, atom: usize) -> usize {
+        let opened = put(text, at, b" (");
+        let valued = put_decimal(text, opened, self.values[atom] as usize);
+        let levels = Levels {
+            atoms: self.values.len(),
+            levels: self.levels,
+            atom,
+        };
+        let levelled = put_each(text, valued, &levels, self.groups);
+        put(text, levelled, b")")
+    }
+
+    fn length(&self, atom: usize) -> usize {
+        let levels = Levels {
+            atoms: self.values.len(),
+            levels: self.levels,
+            atom,
+        };
+        3 + width(self.values[atom] as usize) + each_length(&levels, self.groups)
+    }
+}
+
+// The atoms that are marked. Another has no bytes.
+#[derive(Drop)]
+pub struct Marks<'a> {
+    pub marks: &'a [u8],
+}
+
+impl Parts for Marks<'_> {
+    ghost part = { λ s. mark_part s.marks.now };
+
+    ghost has = { λ s atom. (atom < length s.marks.now) × (atom ≤ max_printed) };
+
+    ghost most = { 8 };
+
+    fn put(&self, text: &mut [u8], at: usize, atom: usize) -> usize {
+        if self.marks[atom] != 1 {
+            return at;
+        }
+        let begun = put(text, at, b" ");
+        put_decimal(text, begun, atom)
+    }
+
+    fn length(&self, atom: usize) -> usize {
+        (self.marks[atom] == 1) as usize * (1 + width(atom))
+    }
 }

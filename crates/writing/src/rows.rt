@@ -1,94 +1,29 @@
-// The lines of a book. Each function puts its bytes at an offset where there is room for them, and answers the offset after them.
-ghost use Rattle.std.specs.Prelude.{map, ◌+◌, ◌≤◌, ◌<◌, length};
-ghost use Rattle.format.specs.Forms.{render_all};
-ghost use Rattle.tables.specs.Rows.{rule_count, rules_of, clause_count, clauses_of};
-ghost use Rattle.tables.specs.Loads.{load_count, loads_of};
+// The lines of rows: how they are put, and how long they are. Each begins with its word and the numbers of the row, and goes on with the row's literals or
+// terms.
+ghost use Rattle.std.specs.Prelude.{◌+◌, ◌≤◌, ◌<◌, length};
+ghost use Rattle.tables.specs.Rows.{rule_count, clause_count};
+ghost use Rattle.tables.specs.Loads.{load_count};
 ghost use Rattle.printing.specs.internal.Putting.{Puts};
-ghost use Rattle.writing.specs.BookForms.{rule_form_of, clause_form_of, load_form_of};
 ghost use Rattle.writing.specs.internal.Parts.{body_bytes, terms_bytes, rule_line, clause_line, load_line};
 ghost use Rattle.writing.specs.internal.Lent.{RulesLie, ClausesLie, LoadsLie};
+ghost use Rattle.writing.specs.internal.Counting.{max_entries, max_line};
 
-use super::parts::{put_literals, put_terms};
-use printing::{put, put_decimal, put_signed};
-use tables::load_rows::{load_count, load_high, load_low, load_size, load_start};
-use tables::rows::{
-    clause_count, clause_size, clause_start, rule_count, rule_head, rule_size, rule_start,
-};
+use super::each::{Parts, put_line};
+use super::lengths::{body_length, line_of_terms_length};
+use super::parts::{Literals, Terms};
+use printing::{put, put_decimal, put_signed, signed_width, width};
+use tables::load_rows::{load_high, load_low, load_size, load_start};
+use tables::rows::{clause_size, clause_start, rule_head, rule_size, rule_start};
 
 // Puts the `size` literals that begin at `start`, and ends the line.
 fn put_body(text: &mut [u8], at: usize, literals: &[u16], start: usize, size: usize) -> usize
     requires { (start + size ≤ length literals.now) × (at + length (body_bytes literals.now start size) ≤ length text.old) }
     ensures { Puts text.old at (body_bytes literals.now start size) result text.new }
 {
-    let listed = put_literals(text, at, &literals[start..], size);
-    put(text, listed, b")\n")
-}
-
-// Puts the line of a rule.
-fn put_rule(text: &mut [u8], at: usize, rules: &[u16], literals: &[u16], row: usize) -> usize
-    requires rules_lie { RulesLie rules.now literals.now }
-    requires row_bound { (row < rule_count rules.now) × (at + length (rule_line rules.now literals.now row) ≤ length text.old) }
-    ensures { Puts text.old at (rule_line rules.now literals.now row) result text.new }
-{
-    let begun = put(text, at, b"(rule ");
-    let headed = put_decimal(text, begun, rule_head(rules, row));
-    put_body(
-        text,
-        headed,
-        literals,
-        rule_start(rules, row),
-        rule_size(rules, row),
-    )
-}
-
-// Puts the lines of all rules.
-pub fn put_rules(text: &mut [u8], at: usize, rules: &[u16], literals: &[u16]) -> usize
-    requires rules_lie { RulesLie rules.now literals.now }
-    requires literals_in_bounds { at + length (render_all (map rule_form_of (rules_of rules.now literals.now))) ≤ length text.old }
-    ensures { Puts text.old at (render_all (map rule_form_of (rules_of rules.now literals.now))) result
-        text.new }
-{
-    let rows = rule_count(rules);
-    let mut next = at;
-    let mut row = 0;
-    while row < rows {
-        next = put_rule(text, next, rules, literals, row);
-        row += 1;
-    }
-    next
-}
-
-// Puts the line of a clause.
-fn put_clause(text: &mut [u8], at: usize, clauses: &[u16], literals: &[u16], row: usize) -> usize
-    requires clauses_lie { ClausesLie clauses.now literals.now }
-    requires row_bound { (row < clause_count clauses.now) × (at + length (clause_line clauses.now literals.now row) ≤ length text.old) }
-    ensures { Puts text.old at (clause_line clauses.now literals.now row) result text.new }
-{
-    let begun = put(text, at, b"(clause");
-    put_body(
-        text,
-        begun,
-        literals,
-        clause_start(clauses, row),
-        clause_size(clauses, row),
-    )
-}
-
-// Puts the lines of all clauses.
-pub fn put_clauses(text: &mut [u8], at: usize, clauses: &[u16], literals: &[u16]) -> usize
-    requires clauses_lie { ClausesLie clauses.now literals.now }
-    requires literals_in_bounds { at + length (render_all (map clause_form_of (clauses_of clauses.now literals.now))) ≤ length text.old }
-    ensures { Puts text.old at (render_all (map clause_form_of (clauses_of clauses.now literals.now))) result
-        text.new }
-{
-    let rows = clause_count(clauses);
-    let mut next = at;
-    let mut row = 0;
-    while row < rows {
-        next = put_clause(text, next, clauses, literals, row);
-        row += 1;
-    }
-    next
+    let body = Literals {
+        literals: &literals[start..],
+    };
+    put_line(text, at, &body, size)
 }
 
 // Puts the `size` terms that begin at `start`, and ends the line.
@@ -105,57 +40,102 @@ fn put_line_of_terms(
     ensures { Puts text.old at (terms_bytes load_literals.now minutes.now start size) result
         text.new }
 {
-    let listed = put_terms(text, at, &load_literals[start..], &minutes[start..], size);
-    put(text, listed, b")\n")
+    let terms = Terms {
+        load_literals: &load_literals[start..],
+        minutes: &minutes[start..],
+    };
+    put_line(text, at, &terms, size)
 }
 
-// Puts the line of a load row.
-fn put_load(
-    text: &mut [u8],
-    at: usize,
-    loads: &[i32],
-    load_literals: &[u16],
-    minutes: &[i16],
-    row: usize,
-) -> usize
-    requires loads_lie { LoadsLie loads.now load_literals.now minutes.now }
-    requires row_bound { (row < load_count loads.now) × (at + length (load_line loads.now load_literals.now minutes.now row) ≤ length text.old) }
-    ensures { Puts text.old at (load_line loads.now load_literals.now minutes.now row) result
-        text.new }
-{
-    let begun = put(text, at, b"(load ");
-    let low = put_signed(text, begun, load_low(loads, row));
-    let parted = put(text, low, b" ");
-    let high = put_signed(text, parted, load_high(loads, row));
-    put_line_of_terms(
-        text,
-        high,
-        load_literals,
-        minutes,
-        load_start(loads, row),
-        load_size(loads, row),
-    )
+// The lines of rules.
+#[derive(Drop)]
+pub struct Rules<'a> {
+    pub rules: &'a [u16],
+    pub literals: &'a [u16],
 }
 
-// Puts the lines of all load rows.
-pub fn put_loads(
-    text: &mut [u8],
-    at: usize,
-    loads: &[i32],
-    load_literals: &[u16],
-    minutes: &[i16],
-) -> usize
-    requires loads_lie { LoadsLie loads.now load_literals.now minutes.now }
-    requires minutes_in_bounds { at + length (render_all (map load_form_of (loads_of loads.now load_literals.now minutes.now))) ≤ length text.old }
-    ensures { Puts text.old at
-        (render_all (map load_form_of (loads_of loads.now load_literals.now minutes.now))) result text.new }
-{
-    let rows = load_count(loads);
-    let mut next = at;
-    let mut row = 0;
-    while row < rows {
-        next = put_load(text, next, loads, load_literals, minutes, row);
-        row += 1;
+impl Parts for Rules<'_> {
+    ghost part = { λ s. rule_line s.rules.now s.literals.now };
+
+    ghost has = { λ s row. RulesLie s.rules.now s.literals.now × (row < rule_count s.rules.now) };
+
+    ghost most = { max_line };
+
+    fn put(&self, text: &mut [u8], at: usize, row: usize) -> usize {
+        let begun = put(text, at, b"(rule ");
+        let headed = put_decimal(text, begun, rule_head(self.rules, row));
+        let start = rule_start(self.rules, row);
+        let size = rule_size(self.rules, row);
+        put_body(text, headed, self.literals, start, size)
     }
-    next
+
+    fn length(&self, row: usize) -> usize {
+        let head = width(rule_head(self.rules, row));
+        let start = rule_start(self.rules, row);
+        let body = body_length(self.literals, start, rule_size(self.rules, row));
+        6 + head + body
+    }
+}
+
+// The lines of clauses.
+#[derive(Drop)]
+pub struct Clauses<'a> {
+    pub clauses: &'a [u16],
+    pub literals: &'a [u16],
+}
+
+impl Parts for Clauses<'_> {
+    ghost part = { λ s. clause_line s.clauses.now s.literals.now };
+
+    ghost has = { λ s row. ClausesLie s.clauses.now s.literals.now × (row < clause_count s.clauses.now) };
+
+    ghost most = { max_line };
+
+    fn put(&self, text: &mut [u8], at: usize, row: usize) -> usize {
+        let begun = put(text, at, b"(clause");
+        let start = clause_start(self.clauses, row);
+        let size = clause_size(self.clauses, row);
+        put_body(text, begun, self.literals, start, size)
+    }
+
+    fn length(&self, row: usize) -> usize {
+        let start = clause_start(self.clauses, row);
+        7 + body_length(self.literals, start, clause_size(self.clauses, row))
+    }
+}
+
+// The lines of load rows.
+#[derive(Drop)]
+pub struct Loads<'a> {
+    pub loads: &'a [i32],
+    pub load_literals: &'a [u16],
+    pub minutes: &'a [i16],
+}
+
+impl Parts for Loads<'_> {
+    ghost part = { λ s. load_line s.loads.now s.load_literals.now s.minutes.now };
+
+    ghost has = { λ s row. LoadsLie s.loads.now s.load_literals.now s.minutes.now × (row < load_count s.loads.now) };
+
+    ghost countable = { λ s. length s.load_literals.now ≤ max_entries };
+
+    ghost most = { max_line };
+
+    fn put(&self, text: &mut [u8], at: usize, row: usize) -> usize {
+        let begun = put(text, at, b"(load ");
+        let low = put_signed(text, begun, load_low(self.loads, row));
+        let parted = put(text, low, b" ");
+        let high = put_signed(text, parted, load_high(self.loads, row));
+        let start = load_start(self.loads, row);
+        let size = load_size(self.loads, row);
+        put_line_of_terms(text, high, self.load_literals, self.minutes, start, size)
+    }
+
+    fn length(&self, row: usize) -> usize {
+        let low = signed_width(load_low(self.loads, row));
+        let high = signed_width(load_high(self.loads, row));
+        let start = load_start(self.loads, row);
+        let size = load_size(self.loads, row);
+        7 + low + high + line_of_terms_length(self.load_literals, self.minutes, start, size)
+    }
 }

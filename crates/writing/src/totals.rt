@@ -15,27 +15,21 @@ fn clauses_total(clauses: &[u16]) -> usize
     requires { length clauses.now ≤ 65536 }
     ensures { (result ≡ sum_below (clause_count clauses.now) (clause_size clauses.now)) × (result ≤ 4294967296) }
 {
-    let rows = clause_count(clauses);
     let mut total = 0;
-    let mut row = 0;
-    while row < rows {
+    for row in 0..clause_count(clauses) {
         total += clause_size(clauses, row);
-        row += 1;
     }
     total
 }
 
-// The terms of all load rows.
+// The terms of all load rows. The two loops stay apart: one for both, told of sizes, bound and table, is longer than they are.
 fn terms_total(loads: &[i32]) -> usize
     requires { length loads.now ≤ 65536 }
     ensures { result ≡ sum_below (load_count loads.now) (load_size loads.now) }
 {
-    let rows = load_count(loads);
     let mut total = 0;
-    let mut row = 0;
-    while row < rows {
+    for row in 0..load_count(loads) {
         total += load_size(loads, row);
-        row += 1;
     }
     total
 }

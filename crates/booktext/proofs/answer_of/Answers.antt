@@ -2,10 +2,10 @@
 use Rattle.booktext.specs.Answers.{answer_of}
 use Rattle.booktext.proofs.answer_of.Goals as goal
 
-pub returns-in-Failed : goal.returns-in-Failed
+pub returns-in-Err : goal.returns-in-Err
 unfolding answer_of
-returns-in-Failed c = rw c.in-Failed.is c.refused_book.ensures
+returns-in-Err c = rw c.in-Err.is c.refused_book.ensures
 
-pub returns-in-Passed : goal.returns-in-Passed
+pub returns-in-Ok : goal.returns-in-Ok
 unfolding answer_of
-returns-in-Passed c = rw (c.in-Passed.is, c.state_of.ensures)
+returns-in-Ok c = rw (c.in-Ok.is, c.state_of.ensures)

@@ -1,17 +1,29 @@
 -- `booktext::state_of` meets its contract: each way out is a case of the definition.
-use borrow.Author.Tests.{eq-eqb, ne_eqb}
-use Rattle.judging.specs.States.{open_stood, claim_stood}
+use mathlib.Core.Path.{◌≡◌, refl}
+use Rattle.judging.specs.declared.reached.Phase.{Phase}
+use Rattle.judging.specs.declared.reached.Phase.TheVariants.{NothingYet, AtomsStood, InRules, InClauses, InLoads, OpenStood, ClaimStood}
+use Rattle.booktext.specs.declared.StateForm.TheVariants.{NoState}
 use Rattle.booktext.specs.Answers.{state_of}
 use Rattle.booktext.proofs.state_of.Goals as goal
 
-pub returns-then-phase-eq-OPEN_STOOD : goal.returns-then-phase-eq-OPEN_STOOD
+-- the phases that the last arm takes
+others : (p : Phase) → (p ≡ OpenStood → ⊥) → (p ≡ ClaimStood → ⊥) → NoState ≡ state_of p
 unfolding state_of
-returns-then-phase-eq-OPEN_STOOD c = rw (eq-eqb _ open_stood c.if-phase-eq-OPEN_STOOD.true)
+others NothingYet o c = refl
+others AtomsStood o c = refl
+others InRules o c = refl
+others InClauses o c = refl
+others InLoads o c = refl
+others OpenStood o c = absurd (o refl)
+others ClaimStood o c = absurd (c refl)
 
-pub returns-then-phase-eq-CLAIM_STOOD : goal.returns-then-phase-eq-CLAIM_STOOD
+pub returns-in-OpenStood : goal.returns-in-OpenStood
 unfolding state_of
-returns-then-phase-eq-CLAIM_STOOD c = rw (ne_eqb _ open_stood c.if-phase-eq-OPEN_STOOD.false, eq-eqb _ claim_stood c.if-phase-eq-CLAIM_STOOD.true)
+returns-in-OpenStood c = rw c.in-OpenStood.is
 
-pub returns : goal.returns
+pub returns-in-ClaimStood : goal.returns-in-ClaimStood
 unfolding state_of
-returns c = rw (ne_eqb _ open_stood c.if-phase-eq-OPEN_STOOD.false, ne_eqb _ claim_stood c.if-phase-eq-CLAIM_STOOD.false)
+returns-in-ClaimStood c = rw c.in-ClaimStood.is
+
+pub returns-in_default : goal.returns-in_default
+returns-in_default c = others _ c.in_default.not-OpenStood c.in_default.not-ClaimStood

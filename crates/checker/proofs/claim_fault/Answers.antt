@@ -4,44 +4,45 @@ use mathlib.Core.List.{◌++◌, ◌∷◌}
 use lib.ListN.{length}
 use Rattle.tables.specs.Faults.{first_fault}
 use Rattle.tables.specs.Rows.{group_count}
-use Rattle.tables.specs.Sound.{Tables, lent, group_of, mark_test}
+use Rattle.tables.specs.Sound.{lent, group_of, mark_test}
 use Rattle.satisfaction.specs.Satisfied.{satisfaction_tests}
-use Rattle.tables.proofs.Faults.{found_refuses, nothing_leaves, verdict_refuses, verdict_leaves}
+use Rattle.tables.proofs.Faults.{absent_alone, passed_leaves, refusal_decides, first_refuse, verdict_leaves}
 use Rattle.checker.specs.Check.{value_test, level_tests, claim_tests}
 use Rattle.checker.proofs.claim_fault.Goals as goal
 
-pub returns-in-At : goal.returns-in-At
+pub returns-in_err-absent : goal.returns-in_err-absent
 unfolding lent mark_test
-returns-in-At c = found_refuses _ _ _ _ _ refl (rw c.requires.marks_len at c.not_held_atom.ensures) c.in-At.is
+returns-in_err-absent c =
+    refusal_decides _ _ _ _ refl (absent_alone _ _ _ c.absent.ensures (rw c.requires.marks_len at c.not_held_atom.ensures)) _ c.in_err-absent.was c.from_residual.ensures.1
 
-pub returns-in-At-not_held_atom : goal.returns-in-At-not_held_atom
+pub returns-in_err-absent-2 : goal.returns-in_err-absent-2
 unfolding claim_tests lent mark_test value_test
-returns-in-At-not_held_atom c =
-    let given : Tables =
-    lent (length c.args.values.now) c.args.rules.now c.args.literals.now c.args.clauses.now c.args.loads.now c.args.load_literals.now c.args.minutes.now c.args.marks.now in
-    let marks_fit : let tests = claim_tests (given) c.args.values.now c.args.levels.now in first_fault (mark_test (given) ∷ tests) ≡ first_fault tests =
-    nothing_leaves _ _ _ _ refl (rw c.requires.marks_len at c.not_held_atom.ensures) c.in_default.is in
-    found_refuses _ _ _ _ _ (marks_fit) c.not_held_atom-2.ensures c.in-At-not_held_atom.is
+returns-in_err-absent-2 c =
+    let a = c.args in
+    let given = lent (length a.values.now) a.rules.now a.literals.now a.clauses.now a.loads.now a.load_literals.now a.minutes.now a.marks.now in
+    let marks_fit : let tests = claim_tests given a.values.now a.levels.now in first_fault (mark_test given ∷ tests) ≡ first_fault tests =
+    passed_leaves _ _ _ _ refl (absent_alone _ _ _ c.absent.ensures (rw c.requires.marks_len at c.not_held_atom.ensures)) c.in_ok-absent.was in
+    refusal_decides _ _ _ _ marks_fit (absent_alone _ _ _ c.absent-2.ensures c.not_held_atom-2.ensures) _ c.in_err-absent-2.was c.from_residual-in_err-absent-2.ensures.1
 
-pub returns-in-Refused : goal.returns-in-Refused
+pub returns-in_err-group_fault : goal.returns-in_err-group_fault
 unfolding claim_tests group_of lent mark_test value_test
-returns-in-Refused c =
-    let given : Tables =
-    lent (length c.args.values.now) c.args.rules.now c.args.literals.now c.args.clauses.now c.args.loads.now c.args.load_literals.now c.args.minutes.now c.args.marks.now in
-    let marks_fit : let tests = claim_tests (given) c.args.values.now c.args.levels.now in first_fault (mark_test (given) ∷ tests) ≡ first_fault tests =
-    nothing_leaves _ _ _ _ refl (rw c.requires.marks_len at c.not_held_atom.ensures) c.in_default.is in
-    let values-fit : let t = given in first_fault (mark_test t ∷ claim_tests t c.args.values.now c.args.levels.now) ≡ first_fault (level_tests (group_of t) t.atoms (group_count t.rules) c.args.rules.now c.args.literals.now c.args.values.now c.args.levels.now ++ satisfaction_tests t c.args.values.now) =
-    nothing_leaves _ _ _ _ (marks_fit) c.not_held_atom-2.ensures c.in_default-not_held_atom.is in
-    verdict_refuses _ _ _ _ _ _ (values-fit) (rw c.requires.groups_value at c.group_fault-verdict.ensures) c.in-Refused.is
+returns-in_err-group_fault c =
+    let a = c.args in
+    let given = lent (length a.values.now) a.rules.now a.literals.now a.clauses.now a.loads.now a.load_literals.now a.minutes.now a.marks.now in
+    let marks_fit : let tests = claim_tests given a.values.now a.levels.now in first_fault (mark_test given ∷ tests) ≡ first_fault tests =
+    passed_leaves _ _ _ _ refl (absent_alone _ _ _ c.absent.ensures (rw c.requires.marks_len at c.not_held_atom.ensures)) c.in_ok-absent.was in
+    let values-fit : first_fault (mark_test given ∷ claim_tests given a.values.now a.levels.now) ≡ first_fault (level_tests (group_of given) given.atoms (group_count given.rules) a.rules.now a.literals.now a.values.now a.levels.now ++ satisfaction_tests given a.values.now) =
+    passed_leaves _ _ _ _ marks_fit (absent_alone _ _ _ c.absent-2.ensures c.not_held_atom-2.ensures) c.in_ok-absent-2.was in
+    first_refuse _ _ _ _ _ values-fit (rw c.requires.groups_value at c.group_fault.ensures) c.in_err-group_fault.was c.from_residual-in_err-group_fault.ensures.1
 
 pub returns : goal.returns
 unfolding claim_tests group_of lent mark_test satisfaction_tests value_test
 returns c =
-    let given : Tables =
-    lent (length c.args.values.now) c.args.rules.now c.args.literals.now c.args.clauses.now c.args.loads.now c.args.load_literals.now c.args.minutes.now c.args.marks.now in
-    let marks_fit : let tests = claim_tests (given) c.args.values.now c.args.levels.now in first_fault (mark_test (given) ∷ tests) ≡ first_fault tests =
-    nothing_leaves _ _ _ _ refl (rw c.requires.marks_len at c.not_held_atom.ensures) c.in_default.is in
-    let values-fit : let t = given in first_fault (mark_test t ∷ claim_tests t c.args.values.now c.args.levels.now) ≡ first_fault (level_tests (group_of t) t.atoms (group_count t.rules) c.args.rules.now c.args.literals.now c.args.values.now c.args.levels.now ++ satisfaction_tests t c.args.values.now) =
-    nothing_leaves _ _ _ _ (marks_fit) c.not_held_atom-2.ensures c.in_default-not_held_atom.is in
+    let a = c.args in
+    let given = lent (length a.values.now) a.rules.now a.literals.now a.clauses.now a.loads.now a.load_literals.now a.minutes.now a.marks.now in
+    let marks_fit : let tests = claim_tests given a.values.now a.levels.now in first_fault (mark_test given ∷ tests) ≡ first_fault tests =
+    passed_leaves _ _ _ _ refl (absent_alone _ _ _ c.absent.ensures (rw c.requires.marks_len at c.not_held_atom.ensures)) c.in_ok-absent.was in
+    let values-fit : first_fault (mark_test given ∷ claim_tests given a.values.now a.levels.now) ≡ first_fault (level_tests (group_of given) given.atoms (group_count given.rules) a.rules.now a.literals.now a.values.now a.levels.now ++ satisfaction_tests given a.values.now) =
+    passed_leaves _ _ _ _ marks_fit (absent_alone _ _ _ c.absent-2.ensures c.not_held_atom-2.ensures) c.in_ok-absent-2.was in
     c.satisfaction_fault.ensures
-    ∙ sym (verdict_leaves _ _ _ _ (values-fit) (rw c.requires.groups_value at c.group_fault-verdict.ensures) c.in_default-verdict.is)
+    ∙ sym (verdict_leaves _ _ _ _ values-fit (rw c.requires.groups_value at c.group_fault.ensures) c.in_ok-group_fault.was)

@@ -4,7 +4,7 @@ use mathlib.Core.Path.{◌≡◌, sym, ◌∙◌}
 use mathlib.Core.Bool.{true}
 use mathlib.Core.List.{[], ◌∷◌}
 use borrow.Author.Rules.{rules}
-use Rattle.numerals.specs.declared.numbers.Number.TheVariants.{Read}
+use Rattle.std.specs.Prelude.{Some}
 use Rattle.format.specs.Words.{word_at}
 use Rattle.numerals.specs.internal.Offsets.{number_at}
 use Rattle.items.proofs.ItemLaws.{byte_got}
@@ -18,19 +18,19 @@ pub returns-in_default : goal.returns-in_default
 returns-in_default c =
     let spaced : word_at c.args.text.now c.args.at (32 ∷ []) ≡ true =
     sym c.byte_at.ensures ∙ c.if-not-byte_at.false in
-    atoms_sizeless _ _ (spaced) (sym c.read_number.ensures ∙ c.in_default.is)
+    atoms_sizeless _ _ spaced (sym c.in_default.ensures)
 
 pub returns-then-not-byte_at-2 : goal.returns-then-not-byte_at-2
 returns-then-not-byte_at-2 c =
     let spaced : word_at c.args.text.now c.args.at (32 ∷ []) ≡ true =
     sym c.byte_at.ensures ∙ c.if-not-byte_at.false in
-    let sized : number_at c.args.text.now (c.args.at + 1) ≡ Read c.in-Read.size c.in-Read.next =
-    sym c.read_number.ensures ∙ c.in-Read.is in
+    let sized : number_at c.args.text.now (c.args.at + 1) ≡ Some (c.in-Some.size, c.in-Some.next) =
+    sym c.in-Some.ensures in
     atoms_unclosed _ _ (spaced) (sized) (sym c.byte_at-2.ensures ∙ c.if-not-byte_at-2.true)
 
 pub overflow_add-result : goal.overflow_add-result
 overflow_add-result c =
-    let closed : word_at c.args.text.now c.in-Read.next (41 ∷ []) ≡ true =
+    let closed : word_at c.args.text.now c.in-Some.next (41 ∷ []) ≡ true =
     sym c.byte_at-2.ensures ∙ c.if-not-byte_at-2.false in
     let l = (byte_got _ _ _ (closed)).1 in search rules
 
@@ -38,8 +38,8 @@ pub returns : goal.returns
 returns c =
     let spaced : word_at c.args.text.now c.args.at (32 ∷ []) ≡ true =
     sym c.byte_at.ensures ∙ c.if-not-byte_at.false in
-    let sized : number_at c.args.text.now (c.args.at + 1) ≡ Read c.in-Read.size c.in-Read.next =
-    sym c.read_number.ensures ∙ c.in-Read.is in
-    let closed : word_at c.args.text.now c.in-Read.next (41 ∷ []) ≡ true =
+    let sized : number_at c.args.text.now (c.args.at + 1) ≡ Some (c.in-Some.size, c.in-Some.next) =
+    sym c.in-Some.ensures in
+    let closed : word_at c.args.text.now c.in-Some.next (41 ∷ []) ≡ true =
     sym c.byte_at-2.ensures ∙ c.if-not-byte_at-2.false in
     atoms_formed _ _ (spaced) (sized) (closed) _ c.clear.ensures

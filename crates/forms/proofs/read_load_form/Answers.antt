@@ -1,18 +1,12 @@
 -- `forms::read_load_form` meets its contract: the two bounds, each after a space, and the terms, then the row.
-use Prim.Native.Nat.{◌+◌}
-use mathlib.Core.Path.{◌≡◌, sym, ap, ◌∙◌}
-use mathlib.Core.Bool.{true}
-use mathlib.Core.List.{[], ◌∷◌}
+use mathlib.Core.Path.{refl, sym, ap, ◌∙◌}
 use native.Mathlib.Omega.{arith}
 use lib.Dec.{leb}
 use lib.IntN.{ℤ, nat_abs}
 use borrow.Author.Rules.{rules}
 use Rattle.tables.specs.Limits.{max_bound}
-use Rattle.numerals.specs.declared.signed.Signed.TheVariants.{Whole}
 use Rattle.format.specs.Forms.{term_bytes}
-use Rattle.format.specs.Words.{word_at}
 use Rattle.format.specs.Parse.{read_term}
-use Rattle.numerals.specs.internal.Offsets.{signed_at}
 use Rattle.format.proofs.Pieces.{term_inverse}
 use Rattle.items.proofs.ItemLaws.{byte_got}
 use Rattle.judging.proofs.Counts.{counts_within_lem}
@@ -26,77 +20,46 @@ use Rattle.forms.proofs.read_load_form.Goals as goal
 pub returns-then-not-byte_at : goal.returns-then-not-byte_at
 returns-then-not-byte_at c = load_unspaced _ _ (sym c.byte_at.ensures ∙ c.if-not-byte_at.true)
 
-pub returns-in_default : goal.returns-in_default
-returns-in_default c =
-    let spaced : word_at c.args.text.now c.args.at (32 ∷ []) ≡ true =
-    sym c.byte_at.ensures ∙ c.if-not-byte_at.false in
-    load_lowless _ _ (spaced) (sym c.read_signed.ensures ∙ c.in_default.is)
+pub returns-in_err-low : goal.returns-in_err-low
+returns-in_err-low c =
+    rw c.from_residual.ensures (load_lowless _ _ (sym c.byte_at.ensures ∙ c.if-not-byte_at.false) (sym c.in_err-low.ensures))
 
 pub returns-then-not-byte_at-2 : goal.returns-then-not-byte_at-2
 returns-then-not-byte_at-2 c =
-    let spaced : word_at c.args.text.now c.args.at (32 ∷ []) ≡ true =
-    sym c.byte_at.ensures ∙ c.if-not-byte_at.false in
-    let lower : signed_at c.args.text.now (c.args.at + 1) ≡ Whole c.in-Whole.low c.in-Whole.after =
-    sym c.read_signed.ensures ∙ c.in-Whole.is in
-    load_one_bound _ _ (spaced) (lower) (sym c.byte_at-2.ensures ∙ c.if-not-byte_at-2.true)
+    load_one_bound _ _ (sym c.byte_at.ensures ∙ c.if-not-byte_at.false) (sym c.in_ok-low.ensures) (sym c.byte_at-2.ensures ∙ c.if-not-byte_at-2.true)
 
 pub overflow_add-after : goal.overflow_add-after
-overflow_add-after c =
-    let again : word_at c.args.text.now c.in-Whole.after (32 ∷ []) ≡ true =
-    sym c.byte_at-2.ensures ∙ c.if-not-byte_at-2.false in
-    let l = (byte_got _ _ _ (again)).1 in search rules
+overflow_add-after c = let l = (byte_got _ _ _ (sym c.byte_at-2.ensures ∙ c.if-not-byte_at-2.false)).1 in search rules
 
-pub returns-in_default-read_signed : goal.returns-in_default-read_signed
-returns-in_default-read_signed c =
-    let spaced : word_at c.args.text.now c.args.at (32 ∷ []) ≡ true =
-    sym c.byte_at.ensures ∙ c.if-not-byte_at.false in
-    let lower : signed_at c.args.text.now (c.args.at + 1) ≡ Whole c.in-Whole.low c.in-Whole.after =
-    sym c.read_signed.ensures ∙ c.in-Whole.is in
-    let again : word_at c.args.text.now c.in-Whole.after (32 ∷ []) ≡ true =
-    sym c.byte_at-2.ensures ∙ c.if-not-byte_at-2.false in
-    load_highless _ _ (spaced) (lower) (again)
-    (sym c.read_signed-2.ensures ∙ c.in_default-read_signed.is)
+pub returns-in_err-high : goal.returns-in_err-high
+returns-in_err-high c =
+    let again = sym c.byte_at-2.ensures ∙ c.if-not-byte_at-2.false in
+    rw c.from_residual-in_err-high.ensures
+    (load_highless _ _ (sym c.byte_at.ensures ∙ c.if-not-byte_at.false) (sym c.in_ok-low.ensures) again (sym c.in_err-high.ensures))
 
 pub read_terms-requires : goal.read_terms-requires
 read_terms-requires c =
-    let again : word_at c.args.text.now c.in-Whole.after (32 ∷ []) ≡ true =
-    sym c.byte_at-2.ensures ∙ c.if-not-byte_at-2.false in
-    let upper : signed_at c.args.text.now (c.in-Whole.after + 1) ≡ Whole c.in-Whole-read_signed.high c.in-Whole-read_signed.next =
-    sym c.read_signed-2.ensures ∙ c.in-Whole-read_signed.is in
-    let n = signed_after _ _ (again) (upper) in
+    let n = signed_after _ _ (sym c.byte_at-2.ensures ∙ c.if-not-byte_at-2.false) (sym c.in_ok-high.ensures) in
     record { inside = record { reached = n.2.inside; short = c.requires.inside.short }; from_le_max_terms = (counts_within_lem _ c.requires.reached_value).terms }
 
-pub returns-in_default-read_terms : goal.returns-in_default-read_terms
-returns-in_default-read_terms c =
-    let spaced : word_at c.args.text.now c.args.at (32 ∷ []) ≡ true =
-    sym c.byte_at.ensures ∙ c.if-not-byte_at.false in
-    let lower : signed_at c.args.text.now (c.args.at + 1) ≡ Whole c.in-Whole.low c.in-Whole.after =
-    sym c.read_signed.ensures ∙ c.in-Whole.is in
-    let again : word_at c.args.text.now c.in-Whole.after (32 ∷ []) ≡ true =
-    sym c.byte_at-2.ensures ∙ c.if-not-byte_at-2.false in
-    let upper : signed_at c.args.text.now (c.in-Whole.after + 1) ≡ Whole c.in-Whole-read_signed.high c.in-Whole-read_signed.next =
-    sym c.read_signed-2.ensures ∙ c.in-Whole-read_signed.is in
-    load_listless _ _ (spaced) (lower) (again) (upper) c.read_terms.ensures c.in_default-read_terms.is
+pub returns-in_err-parts : goal.returns-in_err-parts
+returns-in_err-parts c =
+    let again = sym c.byte_at-2.ensures ∙ c.if-not-byte_at-2.false in
+    rw c.from_residual-in_err-parts.ensures
+    (load_listless _ _ (sym c.byte_at.ensures ∙ c.if-not-byte_at.false) (sym c.in_ok-low.ensures) again (sym c.in_ok-high.ensures) c.in_err-parts.ensures refl)
 
 pub store_load-requires : goal.store_load-requires
 store_load-requires c = let bounds = counts_within_lem _ c.requires.reached_value in
-    let small = count_small term_bytes read_term term_inverse c.in-Whole-read_signed.next c.requires.inside c.read_terms.ensures c.in-Listed.is in
+    let small = count_small term_bytes read_term term_inverse c.in_ok-high.next c.requires.inside c.in_ok-parts.ensures refl in
     (bounds.loads, omega (arith, bounds.terms), small)
 
 pub returns : goal.returns
 unfolding kind_number load_row of_kind same_kind terms_in view_of
 returns c =
-    let spaced : word_at c.args.text.now c.args.at (32 ∷ []) ≡ true =
-    sym c.byte_at.ensures ∙ c.if-not-byte_at.false in
-    let lower : signed_at c.args.text.now (c.args.at + 1) ≡ Whole c.in-Whole.low c.in-Whole.after =
-    sym c.read_signed.ensures ∙ c.in-Whole.is in
-    let again : word_at c.args.text.now c.in-Whole.after (32 ∷ []) ≡ true =
-    sym c.byte_at-2.ensures ∙ c.if-not-byte_at-2.false in
-    let upper : signed_at c.args.text.now (c.in-Whole.after + 1) ≡ Whole c.in-Whole-read_signed.high c.in-Whole-read_signed.next =
-    sym c.read_signed-2.ensures ∙ c.in-Whole-read_signed.is in
-    let once = spaced in
-    let kept = signed_kept _ _ once (lower) in
-    let held = signed_kept _ _ (again) (upper) in
-    load_formed _ _ once (lower) (again) (upper) c.read_terms.ensures
+    let once = sym c.byte_at.ensures ∙ c.if-not-byte_at.false in
+    let again = sym c.byte_at-2.ensures ∙ c.if-not-byte_at-2.false in
+    let kept = signed_kept _ _ once (sym c.in_ok-low.ensures) in
+    let held = signed_kept _ _ again (sym c.in_ok-high.ensures) in
+    load_formed _ _ once (sym c.in_ok-low.ensures) again (sym c.in_ok-high.ensures) c.in_ok-parts.ensures
     (c.bound_within.ensures ∙ ap (λ (z : ℤ). leb (nat_abs z) max_bound) kept) (c.bound_within-2.ensures ∙ ap (λ (z : ℤ). leb (nat_abs z) max_bound) held)
-    c.in-Listed.is (λ lo hi ts d e n w. (rw (← (kept ∙ d), ← (held ∙ e), ← n) c.store_load.ensures, w.0, w.1))
+    refl (λ lo hi ts d e n w. (rw (← (kept ∙ d), ← (held ∙ e), ← n) c.store_load.ensures, w.0, w.1))

@@ -1,10 +1,6 @@
 -- `founding::found_pass` meets its contract: the marks are those that the rows passed make of the entry's, and so many are new.
-use Prim.Native.Nat.{◌-◌, ◌≤◌}
 use Rattle.founding.proofs.FoundingLaws.{PassedTo}
 use Rattle.founding.proofs.found_pass.Given as goal
 
 abbrev pub invariant-loop-row : goal.invariant-loop-row
-invariant-loop-row l = (l.row ≤ l.rows) × PassedTo l.rules l.literals l.values l.initial.founded l.row l.founded l.marked
-
-abbrev pub decreases-loop-row : goal.decreases-loop-row
-decreases-loop-row l = l.rows - l.row
+invariant-loop-row l = PassedTo l.rules l.literals l.values l.initial.founded l.row l.founded l.marked

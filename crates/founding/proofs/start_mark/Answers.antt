@@ -1,22 +1,20 @@
--- `founding::start_mark` meets its contract: each way out is a case of the definition.
+-- `founding::start_mark` meets its contract: its tests are those of the definition.
+use mathlib.Core.Path.{◌≡◌, refl, ◌∙◌}
+use native.Mathlib.Omega.{arith}
 use borrow.Author.Tests.{ne_eqb}
+use Rattle.wellfounded.specs.Literals.{is_true, value_at}
 use Rattle.tables.specs.internal.Marks.{is_marked}
-use Rattle.tables.proofs.MarkLaws.{true_at}
-use Rattle.founding.proofs.FoundingLaws.{beyond_untrue}
+use Rattle.founding.proofs.FoundingLaws.{true_told, as_number}
 use Rattle.founding.proofs.start_mark.Goals as goal
+use Rattle.founding.proofs.start_mark.Goals.{then-defined-atom-ne1, else-defined-atom-ne1}
 
-pub returns-then-defined-atom-ne1 : goal.returns-then-defined-atom-ne1
+pub returns : goal.returns
 unfolding is_marked
-returns-then-defined-atom-ne1 c = rw (ne_eqb _ _ c.if-defined-atom-ne1.true)
-
-pub returns-then-atom-values : goal.returns-then-atom-values
-unfolding is_marked
-returns-then-atom-values c = rw (c.if-defined-atom-ne1.false, beyond_untrue _ _ c.if-atom-values.true)
-
-pub returns-then-values-atom-eq1 : goal.returns-then-values-atom-eq1
-unfolding is_marked
-returns-then-values-atom-eq1 c = rw (c.if-defined-atom-ne1.false, true_at _ _ c.if-atom-values.false, c.if-values-atom-eq1.true)
-
-pub returns-else-values-atom-eq1 : goal.returns-else-values-atom-eq1
-unfolding is_marked
-returns-else-values-atom-eq1 c = rw (c.if-defined-atom-ne1.false, true_at _ _ c.if-atom-values.false, ne_eqb _ _ c.if-values-atom-eq1.false)
+returns c =
+    elim c.if-defined-atom-ne1.branch [
+      | then-defined-atom-ne1 w ↦ rw (w.result-is, ne_eqb _ _ w.if-defined-atom-ne1.true) refl
+      | else-defined-atom-ne1 w ↦ let found = w.get.ensures.lookup in
+          let told : w.eq.result ≡ is_true (value_at c.args.values.now c.args.atom) =
+          w.eq.ensures ∙ true_told _ _ w.get.result _ refl found.0 (found.4 (omega arith) 0) in
+          rw (w.result-is, told, w.if-defined-atom-ne1.false) (as_number _)
+    ]

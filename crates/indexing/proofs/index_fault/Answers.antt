@@ -3,31 +3,29 @@ use mathlib.Core.Path.{sym, ◌∙◌}
 use native.Mathlib.Omega.{arith}
 use Rattle.tables.specs.Sound.{Tables, lent, table_tests}
 use Rattle.tables.proofs.Faults.{accepted_absent}
-use Rattle.tables.proofs.SoundTables.{sound_sizes, marks_refuse, marks_leave}
-use Rattle.tables.proofs.RefusalLaws.{early_decides}
-use Rattle.indexing.proofs.IndexLaws.{fit_refuses, fit_accepts, tables_refuse, tables_leave}
+use Rattle.tables.proofs.SoundTables.{sound_sizes}
+use Rattle.indexing.proofs.IndexLaws.{tables_refuse, count_refuses, first_decides}
 use Rattle.indexing.proofs.index_fault.Goals as goal
 
-pub returns-in-Refused : goal.returns-in-Refused
-returns-in-Refused c =
+pub returns-in_err-table_fault : goal.returns-in_err-table_fault
+returns-in_err-table_fault c =
     let given : Tables =
     lent c.args.atoms c.args.rules.now c.args.literals.now c.args.clauses.now c.args.loads.now c.args.load_literals.now c.args.minutes.now c.args.marks.now in
-    tables_refuse (given) _ _ (c.table_fault-verdict.ensures _) c.in-Refused.is
+    tables_refuse given _ _ (c.table_fault.ensures _) c.in_err-table_fault.was c.from_residual.ensures.1
 
-pub returns-then-marks-atoms : goal.returns-then-marks-atoms
+pub returns-in_err-require : goal.returns-in_err-require
 unfolding lent
-returns-then-marks-atoms c =
+returns-in_err-require c =
     let given : Tables =
     lent c.args.atoms c.args.rules.now c.args.literals.now c.args.clauses.now c.args.loads.now c.args.load_literals.now c.args.minutes.now c.args.marks.now in
-    sym (tables_leave (given) _ _ (c.table_fault-verdict.ensures _) c.in_default.is ∙ marks_refuse _ _ c.if-marks-atoms.true)
+    count_refuses given _ _ (c.table_fault.ensures _) c.in_ok-table_fault.was c.require.ensures c.in_err-require.was c.from_residual-in_err-require.ensures.1
 
 pub index_fits-fit-requires : goal.index_fits-fit-requires
 unfolding lent
 index_fits-fit-requires c =
     let given : Tables =
     lent c.args.atoms c.args.rules.now c.args.literals.now c.args.clauses.now c.args.loads.now c.args.load_literals.now c.args.minutes.now c.args.marks.now in
-    let t = given in
-    let sizes = sound_sizes t (accepted_absent (table_tests t) (sym (c.table_fault-verdict.ensures _) ∙ c.in_default.is)) in
+    let sizes = sound_sizes given (accepted_absent (table_tests given) (sym (c.table_fault.ensures _) ∙ c.in_ok-table_fault.was)) in
     (sizes.few_atoms, omega (arith, sizes.few_rules))
 
 pub returns : goal.returns
@@ -35,6 +33,5 @@ unfolding lent
 returns c =
     let given : Tables =
     lent c.args.atoms c.args.rules.now c.args.literals.now c.args.clauses.now c.args.loads.now c.args.load_literals.now c.args.minutes.now c.args.marks.now in
-    let t = given in
-    let fit = c.index_fits-fit.ensures in
-    c.first_refusal.ensures ∙ sym (tables_leave t _ _ (c.table_fault-verdict.ensures _) c.in_default.is ∙ marks_leave _ _ c.if-marks-atoms.false ∙ early_decides t _ c.if-marks-atoms.false _ _ _ c.not_held_atom-mark.ensures (λ unfit. fit_refuses t _ _ (sym fit ∙ unfit)) (λ fits. fit_accepts t _ _ (sym fit ∙ fits)))
+    first_decides given _ _ (c.table_fault.ensures _) c.in_ok-table_fault.was c.require.ensures c.in_ok-require.was c.not_held_atom.ensures
+    c.index_fits-fit.ensures c.first_refusal.ensures

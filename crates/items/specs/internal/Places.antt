@@ -1,54 +1,40 @@
 -- Literals, terms and claim pairs read at an offset of a text, with the offset after them.
-use Rattle.std.specs.Prelude.{ℕ, ◌-◌, List, leb, length, get_or, drop}
+use Rattle.std.specs.Prelude.{ℕ, List, leb, length, get_or, Option}
 use Rattle.wellfounded.specs.Lists.{all}
 use Rattle.tables.specs.Limits.{max_level}
-use Rattle.items.specs.declared.literals.Literal.{Literal}
-use Rattle.items.specs.declared.literals.Literal.TheVariants.{Coded, NoLiteral}
 use Rattle.items.specs.declared.terms.Term.{Term}
-use Rattle.items.specs.declared.terms.Term.TheVariants.{Weighed, NoTerm}
 use Rattle.items.specs.declared.pairs.Levels.{Levels}
-use Rattle.items.specs.declared.pairs.Levels.TheVariants.{Levelled, NoLevels}
 use Rattle.items.specs.declared.pairs.Pair.{Pair}
-use Rattle.items.specs.declared.pairs.Pair.TheVariants.{Paired, NoPair}
 use Rattle.format.specs.Forms.{LiteralText, TermText, PairText}
-use Rattle.format.specs.Parse.{Reading, got, refused, read_number, read_negated, read_literal, read_term, parts, read_pair}
-use Rattle.numerals.specs.internal.Offsets.{capped, clamped}
-use Rattle.items.specs.Items.{code_of, level_in}
+use Rattle.format.specs.Parse.{read_number, read_negated, read_literal, read_term, parts, read_pair}
+use Rattle.numerals.specs.internal.Offsets.{capped, clamped, read_at}
+use Rattle.items.specs.Items.{code_of}
 
 -- As code reads it: the atom's value stops growing beyond every limit.
 unfoldable pub capped_code : LiteralText → ℕ
 capped_code l = code_of (capped l.atom) l
 
-unfoldable pub answered_literal : List ℕ → Reading LiteralText → Literal
-answered_literal text (got l rest) = Coded (capped_code l) (length text - length rest)
-answered_literal text refused = NoLiteral
+abbrev pub literal_at : List ℕ → ℕ → Option (ℕ × ℕ)
+literal_at = read_at capped_code read_literal
 
-unfoldable pub literal_at : List ℕ → ℕ → Literal
-literal_at text at = answered_literal text (read_literal (drop at text))
+abbrev pub negated_at : List ℕ → ℕ → Option (ℕ × ℕ)
+negated_at = read_at capped_code read_negated
 
-unfoldable pub negated_at : List ℕ → ℕ → Literal
-negated_at text at = answered_literal text (read_negated (drop at text))
+unfoldable pub term_of : TermText → Term
+term_of t = record { minutes = clamped t.minutes; literal = capped_code t.literal }
 
-unfoldable pub answered_term : List ℕ → Reading TermText → Term
-answered_term text (got t rest) = Weighed (clamped t.minutes) (capped_code t.literal) (length text - length rest)
-answered_term text refused = NoTerm
-
-unfoldable pub term_read_at : List ℕ → ℕ → Term
-term_read_at text at = answered_term text (read_term (drop at text))
+abbrev pub term_read_at : List ℕ → ℕ → Option (Term × ℕ)
+term_read_at = read_at term_of read_term
 
 -- The levels of a pair: that of one group, how many there are, and whether all are within their limit.
-unfoldable pub answered_levels : List ℕ → ℕ → Reading (List ℕ) → Levels
-answered_levels text group (got ks rest) =
-    Levelled (capped (get_or ks group 0)) (length ks) (all (λ k. leb k max_level) ks) (length text - length rest)
-answered_levels text group refused = NoLevels
+unfoldable pub levels_of : ℕ → List ℕ → Levels
+levels_of group ks = record { level = capped (get_or ks group 0); count = length ks; within = all (λ k. leb k max_level) ks }
 
-unfoldable pub levels_at : List ℕ → ℕ → ℕ → Levels
-levels_at text at group = answered_levels text group (parts read_number (drop at text))
+abbrev pub levels_at : List ℕ → ℕ → ℕ → Option (Levels × ℕ)
+levels_at text at group = read_at (levels_of group) (parts read_number) text at
 
-unfoldable pub answered_pair : List ℕ → ℕ → Reading PairText → Pair
-answered_pair text group (got p rest) =
-    Paired (capped p.value) (capped (level_in group p)) (length p.levels) (all (λ k. leb k max_level) p.levels) (length text - length rest)
-answered_pair text group refused = NoPair
+unfoldable pub pair_of : ℕ → PairText → Pair
+pair_of group p = record { value = capped p.value; levels = levels_of group p.levels }
 
-unfoldable pub pair_at : List ℕ → ℕ → ℕ → Pair
-pair_at text at group = answered_pair text group (read_pair (drop at text))
+abbrev pub pair_at : List ℕ → ℕ → ℕ → Option (Pair × ℕ)
+pair_at text at group = read_at (pair_of group) read_pair text at

@@ -1,5 +1,6 @@
 -- The shape of a form: what judging needs of it. A shape is judged as its form is.
-use Rattle.std.specs.Prelude.{ℕ, ◌≡◌, Bool, true, cond, ◌&&◌, ◌||◌, List, map, eqb, length}
+use Rattle.std.specs.Prelude.{ℕ, ◌≡◌, Bool, true, cond, ◌&&◌, ◌||◌, List, map, eqb, length, Result, Ok, Err}
+use Rattle.tables.specs.declared.Fault.{Fault}
 use Rattle.tables.specs.declared.Fault.TheVariants.{OutsideLimits, OutOfOrder, NoSpace}
 use Rattle.format.specs.declared.kinds.Kind.{Kind}
 use Rattle.format.specs.declared.kinds.Kind.TheVariants.{Rule, Clause, Load, Open, Claim, Defined}
@@ -10,10 +11,8 @@ use Rattle.judging.specs.declared.reached.Reached.{Reached}
 use Rattle.judging.specs.declared.reached.Space.{Space}
 use Rattle.judging.specs.declared.reached.Shape.{Shape}
 use Rattle.judging.specs.declared.reached.Counted.{Counted}
-use Rattle.judging.specs.declared.reached.Move.{Move}
-use Rattle.judging.specs.declared.reached.Move.TheVariants.{On, Stop}
 use Rattle.judging.specs.States.{advanced, counts_within, fits}
-use Rattle.judging.specs.Judging.{rises_from, numbers_within, may_follow, Step, on, stop}
+use Rattle.judging.specs.Judging.{rises_from, numbers_within, may_follow}
 
 -- Numbers as code has them stop growing beyond every limit; where all are within their limits they rise exactly if the atoms do.
 unfoldable pub capped_rise : List ℕ → Bool
@@ -43,13 +42,13 @@ added s kind size parts =
 unfoldable pub reached_by : Reached → Shape → Reached
 reached_by s shape = added s shape.kind shape.size shape.parts
 
-unfoldable pub judge_shape : Space → Reached → Shape → Step
+unfoldable pub judge_shape : Space → Reached → Shape → Result Reached Fault
 judge_shape space s shape =
     cond (shape.within && counts_within (reached_by s shape))
     (cond (may_follow shape.kind s.phase && order_of s shape.kind shape.parts shape.rising)
-    (cond (fits space (reached_by s shape)) (on (reached_by s shape)) (stop NoSpace))
-    (stop OutOfOrder))
-    (stop OutsideLimits)
+    (cond (fits space (reached_by s shape)) (Ok (reached_by s shape)) (Err NoSpace))
+    (Err OutOfOrder))
+    (Err OutsideLimits)
 
 -- All that was counted so far is within the limits of a book and has space in the lent tables.
 pub record CountsFit (space : Space) (s : Reached) : Type 0 where
@@ -63,6 +62,6 @@ pub record CountedAs (space : Space) (then : Reached) (answer : Counted) : Type 
   pub fitting : answer.fits ≡ fits space then
 
 -- A line judged, with the offset after it.
-unfoldable pub as_move : ℕ → Step → Move
-as_move next (on s) = On s next
-as_move next (stop fault) = Stop fault
+unfoldable pub as_move : ℕ → Result Reached Fault → Result (Reached × ℕ) Fault
+as_move next (Ok s) = Ok (s, next)
+as_move next (Err fault) = Err fault

@@ -1,26 +1,24 @@
 -- `lists::read_atoms` meets its contract: the atoms read so far are marked, counted and tested, and the rest is read where the loop has come to.
 use Prim.Native.Nat.{◌+◌, ◌≤◌, ◌<◌}
-use mathlib.Core.Path.{◌≡◌, sym, ◌∙◌}
+use mathlib.Core.Path.{◌≡◌, refl, sym, ◌∙◌}
 use mathlib.Core.Bool.{true}
 use mathlib.Core.List.{[], ◌∷◌}
 use native.Mathlib.Omega.{arith}
 use lib.ListN.{length}
-use Rattle.numerals.specs.declared.numbers.Number.TheVariants.{Read}
 use Rattle.format.specs.Forms.{decimal}
 use Rattle.format.specs.Words.{word_at}
 use Rattle.format.specs.Parse.{read_number}
 use Rattle.numerals.specs.internal.Offsets.{number_at, beyond_limits}
 use Rattle.format.proofs.Pieces.{number_inverse}
-use Rattle.items.proofs.ItemLaws.{number_none_read, byte_got}
+use Rattle.items.proofs.ItemLaws.{byte_got}
+use Rattle.std.specs.Prelude.{Some}
+use Rattle.numerals.proofs.OffsetLaws.{read_none}
 use Rattle.lists.proofs.ListLaws.{listing_refused, listing_unclosed, listing_end}
 use Rattle.lists.proofs.AtomLaws.{marking_start, marking_turn, atom_room}
 use Rattle.lists.proofs.read_atoms.Goals as goal
 
 pub loop-next-init : goal.loop-next-init
 loop-next-init c = marking_start c.requires.inside.reached
-
-pub byte_at-requires : goal.byte_at-requires
-byte_at-requires c = tt
 
 pub overflow_add-next : goal.overflow_add-next
 overflow_add-next c =
@@ -30,29 +28,20 @@ overflow_add-next c =
     let short = c.requires.inside.short in
     omega arith
 
-pub read_number-requires : goal.read_number-requires
-read_number-requires c = tt
-
-pub shape_of-table-in_default : goal.shape_of-table-in_default
-shape_of-table-in_default c = c.loop-next.invariant.long
-
 pub returns-in_default : goal.returns-in_default
 returns-in_default c =
     let spaced : word_at c.args.text.now c.loop-next.next (32 ∷ []) ≡ true =
     sym c.byte_at.ensures ∙ c.loop-next-test.true in
-    listing_refused decimal read_number number_inverse c.loop-next.invariant.listing (spaced)
-    (number_none_read _ _ (sym c.read_number.ensures ∙ c.in_default.is))
-
-pub store_value-requires : goal.store_value-requires
-store_value-requires c = tt
+    listing_refused decimal read_number number_inverse c.loop-next.invariant.listing refl (spaced)
+    (read_none _ _ _ _ (sym c.in_default.ensures))
 
 pub overflow_add-floor : goal.overflow_add-floor
 overflow_add-floor c =
     let spaced : word_at c.args.text.now c.loop-next.next (32 ∷ []) ≡ true =
     sym c.byte_at.ensures ∙ c.loop-next-test.true in
-    let numbered : number_at c.args.text.now (c.loop-next.next + 1) ≡ Read c.in-Read.atom c.in-Read.after =
-    sym c.read_number.ensures ∙ c.in-Read.is in
-    let room : (c.in-Read.atom ≤ beyond_limits) × (c.loop-next.next < c.in-Read.after) × (c.in-Read.after ≤ length c.args.text.now) =
+    let numbered : number_at c.args.text.now (c.loop-next.next + 1) ≡ Some (c.in-Some.atom, c.in-Some.after) =
+    sym c.in-Some.ensures in
+    let room : (c.in-Some.atom ≤ beyond_limits) × (c.loop-next.next < c.in-Some.after) × (c.in-Some.after ≤ length c.args.text.now) =
     atom_room _ (spaced) (numbered) in
     omega (arith, (room).0)
 
@@ -64,9 +53,9 @@ pub loop-next-smaller : goal.loop-next-smaller
 loop-next-smaller c =
     let spaced : word_at c.args.text.now c.loop-next.next (32 ∷ []) ≡ true =
     sym c.byte_at.ensures ∙ c.loop-next-test.true in
-    let numbered : number_at c.args.text.now (c.loop-next.next + 1) ≡ Read c.in-Read.atom c.in-Read.after =
-    sym c.read_number.ensures ∙ c.in-Read.is in
-    let room : (c.in-Read.atom ≤ beyond_limits) × (c.loop-next.next < c.in-Read.after) × (c.in-Read.after ≤ length c.args.text.now) =
+    let numbered : number_at c.args.text.now (c.loop-next.next + 1) ≡ Some (c.in-Some.atom, c.in-Some.after) =
+    sym c.in-Some.ensures in
+    let room : (c.in-Some.atom ≤ beyond_limits) × (c.loop-next.next < c.in-Some.after) × (c.in-Some.after ≤ length c.args.text.now) =
     atom_room _ (spaced) (numbered) in
     let r = room in
     omega (arith, r.1, r.2)
@@ -75,15 +64,9 @@ pub loop-next-preserved : goal.loop-next-preserved
 loop-next-preserved c =
     let spaced : word_at c.args.text.now c.loop-next.next (32 ∷ []) ≡ true =
     sym c.byte_at.ensures ∙ c.loop-next-test.true in
-    let numbered : number_at c.args.text.now (c.loop-next.next + 1) ≡ Read c.in-Read.atom c.in-Read.after =
-    sym c.read_number.ensures ∙ c.in-Read.is in
+    let numbered : number_at c.args.text.now (c.loop-next.next + 1) ≡ Some (c.in-Some.atom, c.in-Some.after) =
+    sym c.in-Some.ensures in
     marking_turn c.loop-next.invariant c.requires.bound_le_max_atoms (spaced) (numbered) c.store_value.ensures
-
-pub byte_at-requires-2 : goal.byte_at-requires-2
-byte_at-requires-2 c = tt
-
-pub shape_of-table-then-not-byte_at : goal.shape_of-table-then-not-byte_at
-shape_of-table-then-not-byte_at c = c.loop-next.invariant.long
 
 pub returns-then-not-byte_at : goal.returns-then-not-byte_at
 returns-then-not-byte_at c = listing_unclosed decimal read_number number_inverse c.loop-next.invariant.listing
@@ -96,9 +79,6 @@ overflow_add-result c =
     let l = (byte_got _ _ _ (closed)).1 in
     let short = c.requires.inside.short in
     omega arith
-
-pub shape_of-table : goal.shape_of-table
-shape_of-table c = c.loop-next.invariant.long
 
 pub returns : goal.returns
 returns c =

@@ -1,22 +1,16 @@
 -- `lists::read_columns` meets its contract: the columns of the groups so far stand one behind the other.
+use mathlib.Core.Path.{◌≡◌}
 use native.Mathlib.Omega.{arith}
-use Rattle.lists.proofs.PairLaws.{columns_start, columns_turn, columns_end}
+use Rattle.lists.proofs.PairLaws.{columns_start, columns_turn}
 use Rattle.lists.proofs.read_columns.Goals as goal
 
 pub loop-group-init : goal.loop-group-init
-loop-group-init c = let pre = c.requires.le_groups in columns_start _ _ _ _ pre.0 pre.2
-
-pub read_column-requires : goal.read_column-requires
-read_column-requires c = record { inside = c.requires.inside; from_bound = omega (arith, c.loop-group.invariant.few, c.loop-group.invariant.near, c.requires.le_groups) }
-
-pub overflow_add-from : goal.overflow_add-from
-overflow_add-from c = omega (arith, c.loop-group.invariant.few, c.loop-group.invariant.near, c.requires.le_groups)
+loop-group-init c = columns_start _ _ _
 
 pub loop-group-preserved : goal.loop-group-preserved
-loop-group-preserved c = columns_turn c.loop-group.invariant c.loop-group-test.true c.requires.le_groups.2 c.read_column.ensures c.read_column.auto.levels
-
-pub shape_of-levels : goal.shape_of-levels
-shape_of-levels c = c.loop-group.invariant.same
+loop-group-preserved c = columns_turn _ _ _ _ _ _ c.loop-group.invariant c.read_column.ensures
 
 pub returns : goal.returns
-returns c = columns_end c.loop-group.invariant c.loop-group-test.false
+returns c =
+    let over : c.loop-group.group ≡ c.args.groups = omega (arith, c.loop-group.auto.group-end c.requires.le_groups.0, c.loop-group-test.false) in
+    rw over at c.loop-group.invariant

@@ -4,13 +4,14 @@ use mathlib.Core.Path.{◌≡◌, sym, ◌∙◌}
 use mathlib.Core.Bool.{true}
 use mathlib.Core.List.{[], ◌∷◌}
 use native.Mathlib.Omega.{arith}
-use Rattle.items.specs.declared.pairs.Pair.TheVariants.{Paired}
 use Rattle.format.specs.Forms.{pair_bytes}
 use Rattle.format.specs.Words.{word_at}
 use Rattle.format.specs.Parse.{read_pair}
 use Rattle.items.specs.internal.Places.{pair_at}
 use Rattle.format.proofs.Parts.{pair_inverse}
-use Rattle.items.proofs.ItemLaws.{byte_got, pair_none}
+use Rattle.items.proofs.ItemLaws.{byte_got}
+use Rattle.std.specs.Prelude.{Some}
+use Rattle.numerals.proofs.OffsetLaws.{read_none}
 use Rattle.lists.proofs.ListLaws.{listing_refused, listing_unclosed, listing_end}
 use Rattle.lists.proofs.PairLaws.{values_start, values_count, pairs_on, values_turn}
 use Rattle.lists.proofs.read_values.Goals as goal
@@ -18,36 +19,18 @@ use Rattle.lists.proofs.read_values.Goals as goal
 pub loop-next-init : goal.loop-next-init
 loop-next-init c = values_start _ _ _ _ _ c.requires.reached
 
-pub byte_at-requires : goal.byte_at-requires
-byte_at-requires c = tt
-
 pub overflow_add-next : goal.overflow_add-next
 overflow_add-next c =
     let spaced : word_at c.args.text.now c.loop-next.next (32 ∷ []) ≡ true =
     sym c.byte_at.ensures ∙ c.loop-next-test.true in
     let l = (byte_got _ _ _ (spaced)).1 in omega (arith, c.requires.short)
 
-pub read_pair-requires : goal.read_pair-requires
-read_pair-requires c = tt
-
-pub shape_of-values-in_default : goal.shape_of-values-in_default
-shape_of-values-in_default c = c.loop-next.invariant.same_values
-
-pub shape_of-levels-in_default : goal.shape_of-levels-in_default
-shape_of-levels-in_default c = c.loop-next.invariant.same_levels
-
-pub returns-in_default : goal.returns-in_default
-returns-in_default c =
+pub returns-in_err-pair : goal.returns-in_err-pair
+returns-in_err-pair c =
     let spaced : word_at c.args.text.now c.loop-next.next (32 ∷ []) ≡ true =
     sym c.byte_at.ensures ∙ c.loop-next-test.true in
-    listing_refused pair_bytes read_pair pair_inverse c.loop-next.invariant.listing (spaced)
-    (pair_none _ _ _ (sym c.read_pair.ensures ∙ c.in_default.is))
-
-pub store_value-requires : goal.store_value-requires
-store_value-requires c = tt
-
-pub store-requires : goal.store-requires
-store-requires c = tt
+    listing_refused pair_bytes read_pair pair_inverse c.loop-next.invariant.listing c.from_residual.ensures (spaced)
+    (read_none _ _ _ _ (sym c.in_err-pair.ensures))
 
 pub overflow_add-count : goal.overflow_add-count
 overflow_add-count c = omega (arith, values_count c.loop-next.invariant, c.requires.short)
@@ -56,26 +39,17 @@ pub loop-next-smaller : goal.loop-next-smaller
 loop-next-smaller c =
     let spaced : word_at c.args.text.now c.loop-next.next (32 ∷ []) ≡ true =
     sym c.byte_at.ensures ∙ c.loop-next-test.true in
-    let read : pair_at c.args.text.now (c.loop-next.next + 1) 0 ≡ Paired c.in-Paired.value c.in-Paired.level c.in-Paired.told c.in-Paired.low c.in-Paired.after =
-    sym c.read_pair.ensures ∙ c.in-Paired.is in
+    let read : pair_at c.args.text.now (c.loop-next.next + 1) 0 ≡ Some (c.in_ok-pair.pair, c.in_ok-pair.after) =
+    sym c.in_ok-pair.ensures in
     pairs_on _ _ _ (spaced) (read)
 
 pub loop-next-preserved : goal.loop-next-preserved
 loop-next-preserved c =
     let spaced : word_at c.args.text.now c.loop-next.next (32 ∷ []) ≡ true =
     sym c.byte_at.ensures ∙ c.loop-next-test.true in
-    let read : pair_at c.args.text.now (c.loop-next.next + 1) 0 ≡ Paired c.in-Paired.value c.in-Paired.level c.in-Paired.told c.in-Paired.low c.in-Paired.after =
-    sym c.read_pair.ensures ∙ c.in-Paired.is in
-    values_turn c.loop-next.invariant (spaced) (read) c.store_value.ensures c.store_value.auto.values c.store.ensures c.store.auto.table
-
-pub byte_at-requires-2 : goal.byte_at-requires-2
-byte_at-requires-2 c = tt
-
-pub shape_of-values-then-not-byte_at : goal.shape_of-values-then-not-byte_at
-shape_of-values-then-not-byte_at c = c.loop-next.invariant.same_values
-
-pub shape_of-levels-then-not-byte_at : goal.shape_of-levels-then-not-byte_at
-shape_of-levels-then-not-byte_at c = c.loop-next.invariant.same_levels
+    let read : pair_at c.args.text.now (c.loop-next.next + 1) 0 ≡ Some (c.in_ok-pair.pair, c.in_ok-pair.after) =
+    sym c.in_ok-pair.ensures in
+    values_turn c.loop-next.invariant (spaced) (read) c.store_value.ensures c.store.ensures
 
 pub returns-then-not-byte_at : goal.returns-then-not-byte_at
 returns-then-not-byte_at c = listing_unclosed pair_bytes read_pair pair_inverse c.loop-next.invariant.listing
@@ -83,12 +57,6 @@ returns-then-not-byte_at c = listing_unclosed pair_bytes read_pair pair_inverse 
 
 pub overflow_add-result : goal.overflow_add-result
 overflow_add-result c = let l = (byte_got _ _ _ (sym c.byte_at-2.ensures ∙ c.if-not-byte_at.false)).1 in omega (arith, c.requires.short)
-
-pub shape_of-values : goal.shape_of-values
-shape_of-values c = c.loop-next.invariant.same_values
-
-pub shape_of-levels : goal.shape_of-levels
-shape_of-levels c = c.loop-next.invariant.same_levels
 
 pub returns : goal.returns
 returns c = listing_end pair_bytes read_pair pair_inverse c.loop-next.invariant.listing (sym c.byte_at-2.ensures ∙ c.if-not-byte_at.false)

@@ -1,6 +1,6 @@
 -- What the functions promise that give an outcome, and what they ask.
 use Rattle.std.specs.Prelude.{ℕ, ◌*◌, ◌≤◌, ◌≡◌, List, length}
-use Rattle.tables.specs.declared.Verdict.{Verdict}
+use Rattle.tables.specs.Faults.{Verdict}
 use Rattle.tables.specs.Limits.{max_atoms, max_literals, max_rule_rows}
 use Rattle.tables.specs.Rows.{rule_width, literals_by_rule}
 use Rattle.tables.specs.Sound.{Tables}

@@ -1,6 +1,6 @@
 -- `page::put_atoms` meets its contract: its arrays hold the slots and the order of every page.
 use Prim.Native.Nat.{ℕ, ◌+◌}
-use native.Mathlib.Nat.{sub-zero}
+use mathlib.Core.Path.{refl}
 use native.Mathlib.Omega.{arith}
 use Rattle.tables.specs.Limits.{max_atoms}
 use Rattle.page.specs.Pages.{page_keys}
@@ -12,7 +12,7 @@ abbrev most : ℕ
 most = page_keys max_atoms + 1
 
 pub put_ordered-requires : goal.put_ordered-requires
-put_ordered-requires c = record { keys_fit = cut_fits c.requires.printable _ most (sub-zero _) (omega (arith, c.requires.rounds_le_max_atoms.0)) _ max_atoms (sub-zero _) (omega (arith, c.requires.printable.paired.few)); slots_in_bounds = cut_room c.requires.printable _ most (sub-zero _) (omega (arith, c.requires.rounds_le_max_atoms.0)) _ c.requires.rounds_le_max_atoms.1 }
+put_ordered-requires c = record { keys_fit = cut_fits c.requires.printable _ most refl (omega (arith, c.requires.rounds_le_max_atoms.0)) _ max_atoms refl (omega (arith, c.requires.printable.paired.few)); slots_in_bounds = cut_room c.requires.printable _ most refl (omega (arith, c.requires.rounds_le_max_atoms.0)) _ c.requires.rounds_le_max_atoms.1 }
 
 pub returns : goal.returns
-returns c = cut_puts c.requires.printable _ most (sub-zero _) (omega (arith, c.requires.rounds_le_max_atoms.0)) c.put_ordered.ensures
+returns c = cut_puts c.requires.printable _ most refl (omega (arith, c.requires.rounds_le_max_atoms.0)) c.put_ordered.ensures

@@ -1,5 +1,4 @@
 -- `printing::put_signed` meets its contract: a minus, and the magnitude behind it or over it.
-use mathlib.Core.Path.{◌∙◌}
 use native.Mathlib.Omega.{arith}
 use lib.IntN.{nat_abs}
 use lib.ListN.{length-set}
@@ -10,15 +9,9 @@ use Rattle.printing.proofs.put_signed.Goals as goal
 pub bounds-buffer-at : goal.bounds-buffer-at
 bounds-buffer-at c = omega (arith, signed_long c.ranges.number, length_some (nat_abs c.args.number), c.requires.1)
 
-pub overflow_add-at : goal.overflow_add-at
-overflow_add-at c = omega (arith, signed_long c.ranges.number, c.requires.1)
-
 pub put_decimal-requires : goal.put_decimal-requires
 put_decimal-requires c = let long = signed_long c.ranges.number in
     rw (magnitude_is c.ranges.number c.magnitude.ensures, length-set) (c.requires.0, omega (arith, c.requires.1))
-
-pub shape_of-buffer : goal.shape_of-buffer
-shape_of-buffer c = c.put_decimal.auto.buffer ∙ simp length-set
 
 pub returns : goal.returns
 returns c = let fits = c.ranges.number in

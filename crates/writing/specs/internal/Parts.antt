@@ -3,7 +3,7 @@ use Rattle.std.specs.Prelude.{ℕ, ◌+◌, ◌*◌, cond, List, [], ◌∷◌, 
 use Rattle.wellfounded.specs.Literals.{body_at}
 use Rattle.tables.specs.Rows.{is_declared, rule_at, rules_of, clause_at, clauses_of}
 use Rattle.tables.specs.Loads.{term_at, terms_at, load_at, loads_of}
-use Rattle.format.specs.Forms.{Form, space, line_end, decimal, literal_bytes, term_bytes, pair_bytes, parts_bytes, render, render_all}
+use Rattle.format.specs.Forms.{Form, space, closing, line_end, decimal, literal_bytes, term_bytes, pair_bytes, parts_bytes, render, render_all}
 use Rattle.writing.specs.BookForms.{literal_text, term_text, rule_form_of, clause_form_of, load_form_of, claimed_pair}
 
 -- The literal, the term, the level in a group, the pair and the marked atom at a place.
@@ -25,6 +25,10 @@ mark_part marks atom = cond (is_declared marks atom) (space ∷ decimal atom) []
 -- A form's line with the byte that ends it.
 unfoldable pub line_of : Form → List ℕ
 line_of f = render f ++ (line_end ∷ [])
+
+-- What ends a line of parts: the closing bracket and the byte after it.
+abbrev pub line_close : List ℕ
+line_close = closing ∷ line_end ∷ []
 
 -- What stands on a line from the literals or the terms on.
 unfoldable pub body_bytes : List ℕ → ℕ → ℕ → List ℕ

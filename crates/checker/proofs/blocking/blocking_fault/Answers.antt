@@ -1,8 +1,8 @@
 -- `checker::blocking::blocking_fault` meets its contract: no group passed has a row without a blocking literal.
-use mathlib.Core.Path.{◌∙◌}
+use mathlib.Core.Path.{refl, ◌∙◌}
 use native.Mathlib.Omega.{arith}
 use lib.ListN.{length}
-use Rattle.tables.proofs.Faults.{turned_start, turned_turn, turned_stop, turned_end}
+use Rattle.tables.proofs.Faults.{turned_start, turned_turn, turned_end, turned_refuses, accepted_none}
 use Rattle.checker.specs.Check.{blocking_test}
 use Rattle.checker.proofs.DefinedMarks.{part_lies}
 use Rattle.checker.proofs.Supported.{blocking_search}
@@ -18,15 +18,16 @@ levels_of-part-requires c = let all = c.requires.groups_levelled in
 pub unblocked_row-requires : goal.unblocked_row-requires
 unblocked_row-requires c = rw c.levels_of-part.ensures (c.requires.by_index _ (omega arith))
 
-pub returns-in-At : goal.returns-in-At
+pub returns-in_err-absent : goal.returns-in_err-absent
 unfolding blocking_test
-returns-in-At c = λ d ranged. turned_stop (omega arith) (rw (← c.levels_of-part.ensures) (c.unblocked_row.ensures ∙ blocking_search (rw c.levels_of-part.ensures (ranged.each _ (omega arith))) (rw c.levels_of-part.ensures (c.requires.by_index _ (omega arith))))) c.in-At.is (c.loop-group.invariant.1 d ranged)
+returns-in_err-absent c = λ d ranged. turned_refuses _ _ _ _ (omega arith) refl (rw (← c.levels_of-part.ensures) (c.unblocked_row.ensures ∙ blocking_search (rw c.levels_of-part.ensures (ranged.each _ (omega arith))) (rw c.levels_of-part.ensures (c.requires.by_index _ (omega arith)))))
+    c.absent.ensures c.in_err-absent.was c.from_residual.ensures.1 (c.loop-group.invariant.1 d ranged)
 
 pub loop-group-preserved : goal.loop-group-preserved
 unfolding blocking_test
 loop-group-preserved c = (
   omega arith,
-  λ d ranged. turned_turn (omega arith) (rw (← c.levels_of-part.ensures) (c.unblocked_row.ensures ∙ blocking_search (rw c.levels_of-part.ensures (ranged.each _ (omega arith))) (rw c.levels_of-part.ensures (c.requires.by_index _ (omega arith))))) c.in_default.is (c.loop-group.invariant.1 d ranged),
+  λ d ranged. turned_turn (omega arith) (rw (← c.levels_of-part.ensures) (c.unblocked_row.ensures ∙ blocking_search (rw c.levels_of-part.ensures (ranged.each _ (omega arith))) (rw c.levels_of-part.ensures (c.requires.by_index _ (omega arith))))) (accepted_none _ _ _ c.absent.ensures c.in_ok-absent.was) (c.loop-group.invariant.1 d ranged),
 )
 
 pub returns : goal.returns

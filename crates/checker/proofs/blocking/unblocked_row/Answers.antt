@@ -1,4 +1,4 @@
--- `checker::blocking::unblocked_row` meets its contract: below `next` no row is unblocked, and before `i` no literal of the row's body blocks.
+-- `checker::blocking::unblocked_row` meets its contract: before `row` no row is unblocked, and before `i` no literal of the row's body blocks.
 use mathlib.Core.Path.{refl, ◌∙◌}
 use native.Mathlib.Omega.{arith}
 use Rattle.tables.proofs.Faults.{search_start, search_end}

@@ -15,14 +15,14 @@ pub returns-in_default : goal.returns-in_default
 returns-in_default c =
     let plain : word_at c.args.text.now c.args.at (40 ∷ []) ≡ false =
     sym c.byte_at.ensures ∙ c.if-byte_at.false in
-    sym (literal_atomless _ _ (plain) (sym c.read_number.ensures ∙ c.in_default.is))
+    sym (literal_atomless _ _ (plain) (sym c.in_default.ensures))
 
 pub overflow_mul-result : goal.overflow_mul-result
-overflow_mul-result c = let l = number_limit _ _ _ _ (sym c.read_number.ensures ∙ c.in-Read.is) in
+overflow_mul-result c = let l = number_limit _ _ _ _ (sym c.in-Some.ensures) in
     search rules
 
 pub returns : goal.returns
 returns c =
     let plain : word_at c.args.text.now c.args.at (40 ∷ []) ≡ false =
     sym c.byte_at.ensures ∙ c.if-byte_at.false in
-    sym (literal_atom _ _ (plain) (sym c.read_number.ensures ∙ c.in-Read.is))
+    sym (literal_atom _ _ (plain) (sym c.in-Some.ensures))

@@ -24,26 +24,26 @@ pub returns-in_default : goal.returns-in_default
 returns-in_default c =
     let opened : word_at c.args.text.now c.args.at not_word ≡ true =
     sym c.word_at.ensures ∙ c.if-not-word_at.false in
-    sym (negated_atomless _ _ (opened) (sym c.read_number.ensures ∙ c.in_default.is))
+    sym (negated_atomless _ _ (opened) (sym c.in_default.ensures))
 
 pub returns-then-not-byte_at : goal.returns-then-not-byte_at
 returns-then-not-byte_at c =
     let opened : word_at c.args.text.now c.args.at not_word ≡ true =
     sym c.word_at.ensures ∙ c.if-not-word_at.false in
     sym (negated_unclosed _ _ (opened)
-    (sym c.read_number.ensures ∙ c.in-Read.is)
+    (sym c.in-Some.ensures)
     (sym c.byte_at.ensures ∙ c.if-not-byte_at.true))
 
 pub overflow_mul-result : goal.overflow_mul-result
 overflow_mul-result c =
-    let small : c.in-Read.atom ≤ beyond_limits =
-    number_limit _ _ _ _ (sym c.read_number.ensures ∙ c.in-Read.is) in
+    let small : c.in-Some.atom ≤ beyond_limits =
+    number_limit _ _ _ _ (sym c.in-Some.ensures) in
     let l = small in search rules
 
 pub overflow_add-result : goal.overflow_add-result
 overflow_add-result c =
-    let small : c.in-Read.atom ≤ beyond_limits =
-    number_limit _ _ _ _ (sym c.read_number.ensures ∙ c.in-Read.is) in
+    let small : c.in-Some.atom ≤ beyond_limits =
+    number_limit _ _ _ _ (sym c.in-Some.ensures) in
     let l = small in search rules
 
 pub overflow_add-result-2 : goal.overflow_add-result-2
@@ -54,5 +54,5 @@ returns c =
     let opened : word_at c.args.text.now c.args.at not_word ≡ true =
     sym c.word_at.ensures ∙ c.if-not-word_at.false in
     sym (negated_closed _ _ (opened)
-    (sym c.read_number.ensures ∙ c.in-Read.is)
+    (sym c.in-Some.ensures)
     (sym c.byte_at.ensures ∙ c.if-not-byte_at.false))

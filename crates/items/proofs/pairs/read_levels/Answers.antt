@@ -4,7 +4,7 @@ use mathlib.Core.Path.{◌≡◌, sym, ◌∙◌}
 use mathlib.Core.Bool.{true}
 use mathlib.Core.List.{[], ◌∷◌}
 use borrow.Author.Rules.{rules}
-use Rattle.numerals.specs.declared.numbers.Number.TheVariants.{Read}
+use Rattle.std.specs.Prelude.{Some}
 use Rattle.format.specs.Words.{word_at}
 use Rattle.numerals.specs.internal.Offsets.{number_at}
 use Rattle.items.proofs.ItemLaws.{byte_got}
@@ -25,7 +25,7 @@ returns-in_default c =
     let spaced : word_at c.args.text.now c.loop-next.next (32 ∷ []) ≡ true =
     sym c.byte_at.ensures ∙ c.loop-next-test.true in
     levels_refused c.loop-next.invariant (spaced)
-    (sym c.read_number.ensures ∙ c.in_default.is)
+    (sym c.in_default.ensures)
 
 pub overflow_add-count : goal.overflow_add-count
 overflow_add-count c = let l = levels_inside c.loop-next.invariant in search rules
@@ -34,16 +34,16 @@ pub loop-next-smaller : goal.loop-next-smaller
 loop-next-smaller c =
     let spaced : word_at c.args.text.now c.loop-next.next (32 ∷ []) ≡ true =
     sym c.byte_at.ensures ∙ c.loop-next-test.true in
-    let read : number_at c.args.text.now (c.loop-next.next + 1) ≡ Read c.in-Read.level c.in-Read.after =
-    sym c.read_number.ensures ∙ c.in-Read.is in
+    let read : number_at c.args.text.now (c.loop-next.next + 1) ≡ Some (c.in-Some.level, c.in-Some.after) =
+    sym c.in-Some.ensures in
     levels_on c.loop-next.invariant (spaced) (read)
 
 pub loop-next-preserved : goal.loop-next-preserved
 loop-next-preserved c =
     let spaced : word_at c.args.text.now c.loop-next.next (32 ∷ []) ≡ true =
     sym c.byte_at.ensures ∙ c.loop-next-test.true in
-    let read : number_at c.args.text.now (c.loop-next.next + 1) ≡ Read c.in-Read.level c.in-Read.after =
-    sym c.read_number.ensures ∙ c.in-Read.is in
+    let read : number_at c.args.text.now (c.loop-next.next + 1) ≡ Some (c.in-Some.level, c.in-Some.after) =
+    sym c.in-Some.ensures in
     levels_turn c.loop-next.invariant (spaced) (read) c.chosen-found.ensures
 
 pub returns-then-not-byte_at : goal.returns-then-not-byte_at

@@ -4,7 +4,7 @@ use mathlib.Core.Path.{◌≡◌, sym, ◌∙◌}
 use mathlib.Core.Bool.{true}
 use mathlib.Core.List.{[], ◌∷◌}
 use borrow.Author.Rules.{rules}
-use Rattle.numerals.specs.declared.numbers.Number.TheVariants.{Read}
+use Rattle.std.specs.Prelude.{Some}
 use Rattle.format.specs.Words.{word_at}
 use Rattle.numerals.specs.internal.Offsets.{number_at}
 use Rattle.items.proofs.ItemLaws.{byte_got}
@@ -24,28 +24,28 @@ pub returns-in_default : goal.returns-in_default
 returns-in_default c =
     let opened : word_at c.args.text.now c.args.at (40 ∷ []) ≡ true =
     sym c.byte_at.ensures ∙ c.if-not-byte_at.false in
-    pair_valueless _ _ _ (opened) (sym c.read_number.ensures ∙ c.in_default.is)
+    pair_valueless _ _ _ (opened) (sym c.in_default.ensures)
 
 pub read_levels-requires : goal.read_levels-requires
 read_levels-requires c =
     let opened : word_at c.args.text.now c.args.at (40 ∷ []) ≡ true =
     sym c.byte_at.ensures ∙ c.if-not-byte_at.false in
-    let valued : number_at c.args.text.now (c.args.at + 1) ≡ Read c.in-Read.value c.in-Read.after =
-    sym c.read_number.ensures ∙ c.in-Read.is in
+    let valued : number_at c.args.text.now (c.args.at + 1) ≡ Some (c.in-Some.value, c.in-Some.after) =
+    sym c.in-Some.ensures in
     (valued_got _ _ c.args.wanted (opened) (valued)).2.inside
 
-pub returns-in_default-read_levels : goal.returns-in_default-read_levels
-returns-in_default-read_levels c =
+pub returns-in_err-levels : goal.returns-in_err-levels
+returns-in_err-levels c =
     let opened : word_at c.args.text.now c.args.at (40 ∷ []) ≡ true =
     sym c.byte_at.ensures ∙ c.if-not-byte_at.false in
-    let valued : number_at c.args.text.now (c.args.at + 1) ≡ Read c.in-Read.value c.in-Read.after =
-    sym c.read_number.ensures ∙ c.in-Read.is in
-    pair_levelless _ _ _ (opened) (valued) (sym c.read_levels.ensures ∙ c.in_default-read_levels.is)
+    let valued : number_at c.args.text.now (c.args.at + 1) ≡ Some (c.in-Some.value, c.in-Some.after) =
+    sym c.in-Some.ensures in
+    c.from_residual.ensures ∙ pair_levelless _ _ _ (opened) (valued) (sym c.in_err-levels.ensures)
 
 pub returns : goal.returns
 returns c =
     let opened : word_at c.args.text.now c.args.at (40 ∷ []) ≡ true =
     sym c.byte_at.ensures ∙ c.if-not-byte_at.false in
-    let valued : number_at c.args.text.now (c.args.at + 1) ≡ Read c.in-Read.value c.in-Read.after =
-    sym c.read_number.ensures ∙ c.in-Read.is in
-    pair_levelled _ _ _ (opened) (valued) (sym c.read_levels.ensures ∙ c.in-Levelled.is)
+    let valued : number_at c.args.text.now (c.args.at + 1) ≡ Some (c.in-Some.value, c.in-Some.after) =
+    sym c.in-Some.ensures in
+    pair_levelled _ _ _ (opened) (valued) (sym c.in_ok-levels.ensures)

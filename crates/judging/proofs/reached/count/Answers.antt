@@ -1,7 +1,7 @@
 -- `judging::reached::count` meets its contract: each kind of form by itself.
 use mathlib.Core.Path.{refl}
 use native.Mathlib.Nat.{add-zero}
-use Rattle.format.specs.declared.kinds.Kind.TheVariants.{Atoms, Open, Claim, Defined, Unknown}
+use Rattle.format.specs.declared.kinds.Kind.TheVariants.{Atoms, Open, Claim, Defined}
 use Rattle.format.specs.Views.{kind_number, same_kind}
 use Rattle.judging.specs.States.{phase_after, advanced}
 use Rattle.judging.specs.internal.Shapes.{added}
@@ -50,12 +50,4 @@ returns-in-Defined c = rw c.in-Defined.is (record {
   state = simp add-zero;
   limits = other_limits _ _ c.args.size c.args.parts c.requires.0 Defined refl refl refl;
   fitting = other_space _ _ c.args.size c.args.parts c.requires.0 Defined refl refl refl refl refl;
-})
-
-pub returns-in-Unknown : goal.returns-in-Unknown
-unfolding added advanced kind_number phase_after same_kind
-returns-in-Unknown c = rw c.in-Unknown.is (record {
-  state = simp add-zero;
-  limits = other_limits _ _ c.args.size c.args.parts c.requires.0 Unknown refl refl refl;
-  fitting = other_space _ _ c.args.size c.args.parts c.requires.0 Unknown refl refl refl refl refl;
 })

@@ -1,6 +1,4 @@
 -- `judging::reached::levels_told` meets its contract: a level for each atom in each group.
-use Prim.Native.Nat.{ℕ, ◌*◌}
-use mathlib.Core.Path.{ap}
 use borrow.Author.Rules.{rules}
 use Rattle.judging.specs.States.{groups_reached}
 use Rattle.judging.proofs.reached.levels_told.Goals as goal
@@ -8,6 +6,3 @@ use Rattle.judging.proofs.reached.levels_told.Goals as goal
 pub overflow_mul-result : goal.overflow_mul-result
 unfolding groups_reached
 overflow_mul-result c = rw c.groups_reached.ensures (search rules)
-
-pub returns : goal.returns
-returns c = ap (λ (g : ℕ). c.args.reached.size * g) c.groups_reached.ensures

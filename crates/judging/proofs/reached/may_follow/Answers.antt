@@ -1,10 +1,11 @@
 -- `judging::reached::may_follow` meets its contract: each kind has its own phases.
+use borrow.Author.Rules.{rules}
 use Rattle.judging.specs.Judging.{may_follow}
 use Rattle.judging.proofs.reached.may_follow.Goals as goal
 
 pub returns-in-Atoms : goal.returns-in-Atoms
 unfolding may_follow
-returns-in-Atoms c = rw c.in-Atoms.is
+returns-in-Atoms c = rw c.in-Atoms.is (search rules)
 
 pub returns-in-Rule : goal.returns-in-Rule
 unfolding may_follow
@@ -28,8 +29,4 @@ returns-in-Claim c = rw c.in-Claim.is c.between-in-Claim.ensures
 
 pub returns-in-Defined : goal.returns-in-Defined
 unfolding may_follow
-returns-in-Defined c = rw c.in-Defined.is
-
-pub returns-in-Unknown : goal.returns-in-Unknown
-unfolding may_follow
-returns-in-Unknown c = rw c.in-Unknown.is
+returns-in-Defined c = rw c.in-Defined.is (search rules)

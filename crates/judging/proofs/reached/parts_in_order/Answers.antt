@@ -3,7 +3,7 @@ use Prim.Native.Nat.{ℕ}
 use mathlib.Core.Path.{◌≡◌, refl, sym}
 use mathlib.Core.Bool.{Bool, and-true}
 use Rattle.format.specs.declared.kinds.Kind.{Kind}
-use Rattle.format.specs.declared.kinds.Kind.TheVariants.{Atoms, Rule, Clause, Load, Open, Claim, Defined, Unknown}
+use Rattle.format.specs.declared.kinds.Kind.TheVariants.{Atoms, Rule, Clause, Load, Open, Claim, Defined}
 use Rattle.format.specs.Views.{kind_number, same_kind}
 use Rattle.judging.specs.declared.reached.Reached.{Reached}
 use Rattle.judging.specs.internal.Shapes.{order_of}
@@ -19,7 +19,6 @@ others s Load parts rising o = sym (and-true rising)
 others s Open parts rising o = sym (and-true rising)
 others s Claim parts rising o = absurd (o refl)
 others s Defined parts rising o = sym (and-true rising)
-others s Unknown parts rising o = sym (and-true rising)
 
 pub returns-in-Claim : goal.returns-in-Claim
 unfolding kind_number order_of same_kind

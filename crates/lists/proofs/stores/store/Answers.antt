@@ -1,13 +1,12 @@
--- `lists::stores::store` meets its contract: each way out is a case of what is stored.
+-- `lists::stores::store` meets its contract: an entry that has 16 bits is put at its place, and no other.
+use mathlib.Core.Path.{◌∙◌}
+use native.Mathlib.Omega.{arith}
 use borrow.Author.Tests.{lt-ltb, le-ltb}
-use Rattle.lists.proofs.StoreLaws.{stored_small, stored_large, stored_beyond}
+use Rattle.lists.proofs.StoreLaws.{stored_small, stored_large}
 use Rattle.lists.proofs.stores.store.Goals as goal
 
-pub returns-then-entry-lt65536 : goal.returns-then-entry-lt65536
-returns-then-entry-lt65536 c = stored_small _ _ _ (lt-ltb _ _ c.if-entry-lt65536.true)
+pub returns-in-Ok : goal.returns-in-Ok
+returns-in-Ok c = c.put.ensures ∙ rw c.in-Ok.ensures.1 (stored_small _ _ _ (lt-ltb _ _ c.in-Ok.ensures.0))
 
-pub returns-else-entry-lt65536 : goal.returns-else-entry-lt65536
-returns-else-entry-lt65536 c = stored_large _ _ _ (le-ltb _ _ c.if-entry-lt65536.false)
-
-pub returns-else-place-table : goal.returns-else-place-table
-returns-else-place-table c = stored_beyond _ _ _ _ c.if-place-table.false
+pub returns-in_default : goal.returns-in_default
+returns-in_default c = stored_large _ _ _ (le-ltb _ _ (omega (arith, c.in_default.ensures)))

@@ -1,13 +1,12 @@
--- `lists::stores::store_value` meets its contract: each way out is a case of what is stored.
+-- `lists::stores::store_value` meets its contract: a value that has 8 bits is put at its place, and no other.
+use mathlib.Core.Path.{◌∙◌}
+use native.Mathlib.Omega.{arith}
 use borrow.Author.Tests.{lt-ltb, le-ltb}
-use Rattle.lists.proofs.StoreLaws.{stored_small, stored_large, stored_beyond}
+use Rattle.lists.proofs.StoreLaws.{stored_small, stored_large}
 use Rattle.lists.proofs.stores.store_value.Goals as goal
 
-pub returns-then-value-lt-VALUES : goal.returns-then-value-lt-VALUES
-returns-then-value-lt-VALUES c = stored_small _ _ _ (lt-ltb _ _ c.if-value-lt-VALUES.true)
+pub returns-in-Ok : goal.returns-in-Ok
+returns-in-Ok c = c.put.ensures ∙ rw c.in-Ok.ensures.1 (stored_small _ _ _ (lt-ltb _ _ c.in-Ok.ensures.0))
 
-pub returns-else-value-lt-VALUES : goal.returns-else-value-lt-VALUES
-returns-else-value-lt-VALUES c = stored_large _ _ _ (le-ltb _ _ c.if-value-lt-VALUES.false)
-
-pub returns-else-place-values : goal.returns-else-place-values
-returns-else-place-values c = stored_beyond _ _ _ _ c.if-place-values.false
+pub returns-in_default : goal.returns-in_default
+returns-in_default c = stored_large _ _ _ (le-ltb _ _ (omega (arith, c.in_default.ensures)))

@@ -1,21 +1,33 @@
 -- `numerals::numbers::digits_from` meets its contract: the digits from `next` on make of the total what all make of the start.
-use mathlib.Core.Path.{sym, ◌∙◌}
+use Prim.Native.Nat.{◌<◌}
+use mathlib.Core.Path.{◌≡◌, sym, ◌∙◌}
+use mathlib.Core.Bool.{true}
 use native.Mathlib.Omega.{arith}
-use Rattle.numerals.proofs.OffsetLaws.{digits_start, digits_turn, digits_stop, digits_end}
+use lib.ListN.{length}
+use Rattle.numerals.specs.internal.Offsets.{digit_at}
+use Rattle.numerals.proofs.OffsetLaws.{digits_start, digits_turn, digit_inside, digit_here, digits_end}
 use Rattle.numerals.proofs.numbers.digits_from.Goals as goal
 
-pub loop-next-init : goal.loop-next-init
-loop-next-init c = digits_start (omega arith) (omega arith)
+pub loop-total-init : goal.loop-total-init
+loop-total-init c = digits_start (omega arith) (omega arith)
 
-pub returns-then-not-is_digit : goal.returns-then-not-is_digit
-returns-then-not-is_digit c = digits_stop (omega arith) (sym c.is_digit.ensures ∙ c.if-not-is_digit.true) c.loop-next.invariant
+pub bounds-text-next : goal.bounds-text-next
+bounds-text-next c = digit_inside _ _ (sym c.digit_at.ensures ∙ c.loop-total-test.true)
 
 pub grown-total-requires : goal.grown-total-requires
-grown-total-requires c = (c.loop-next.invariant.small, sym c.is_digit.ensures ∙ c.if-not-is_digit.false)
+grown-total-requires c =
+    let digit : digit_at c.args.text.now c.loop-total.next ≡ true = sym c.digit_at.ensures ∙ c.loop-total-test.true in
+    (c.loop-total.invariant.small, sym (digit_here _ _ (digit_inside _ _ digit)) ∙ digit)
 
-pub loop-next-preserved : goal.loop-next-preserved
-loop-next-preserved c = digits_turn (omega arith) (sym c.is_digit.ensures ∙ c.if-not-is_digit.false) c.grown-total.ensures
-    c.loop-next.invariant
+pub loop-total-smaller : goal.loop-total-smaller
+loop-total-smaller c =
+    let inside : c.loop-total.next < length c.args.text.now = digit_inside _ _ (sym c.digit_at.ensures ∙ c.loop-total-test.true) in
+    omega arith
+
+pub loop-total-preserved : goal.loop-total-preserved
+loop-total-preserved c =
+    let digit : digit_at c.args.text.now c.loop-total.next ≡ true = sym c.digit_at.ensures ∙ c.loop-total-test.true in
+    digits_turn digit c.grown-total.ensures c.loop-total.invariant
 
 pub returns : goal.returns
-returns c = digits_end (omega arith) c.loop-next.invariant
+returns c = digits_end (sym c.digit_at.ensures ∙ c.loop-total-test.false) c.loop-total.invariant

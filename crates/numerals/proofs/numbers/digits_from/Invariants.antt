@@ -4,8 +4,8 @@ use lib.ListN.{length}
 use Rattle.numerals.proofs.OffsetLaws.{Digits}
 use Rattle.numerals.proofs.numbers.digits_from.Given as goal
 
-abbrev pub invariant-loop-next : goal.invariant-loop-next
-invariant-loop-next l = Digits l.text l.at l.value l.next l.total
+abbrev pub invariant-loop-total : goal.invariant-loop-total
+invariant-loop-total l = Digits l.text l.at l.value l.next l.total
 
-abbrev pub decreases-loop-next : goal.decreases-loop-next
-decreases-loop-next l = length l.text - l.next
+abbrev pub decreases-loop-total : goal.decreases-loop-total
+decreases-loop-total l = length l.text - l.next

@@ -1,42 +1,31 @@
--- `propagation::lacking::body_lacks` meets its contract: the literals passed are in the total.
-use Prim.Native.Nat.{◌≤◌}
+-- `propagation::lacking::body_lacks` meets its contract: the library's sum of the table's entries is the sum place by place.
+use mathlib.Core.Path.{◌∙◌}
 use lib.ListN.{get_or}
-use native.Mathlib.Omega.{arith}
-use Rattle.propagation.proofs.LackingLaws.{adding_start, adding_turn, adding_end}
+use borrow.Author.Rules.{rules}
+use Rattle.std.proofs.lemmas.Iterator.{YieldsList-from_slice, YieldsList-from_map}
+use Rattle.std.proofs.lemmas.Iterator.Adapters.{serves_from_places}
+use Rattle.std.proofs.lemmas.Iterator.Consumers.{YieldsList-at, sum_by_from_yields_List, fits_by_from_yields_list}
+use Rattle.wellfounded.proofs.Sums.{sum_by_places}
+use Rattle.propagation.proofs.LackingLaws.{body_entry, body_few}
 use Rattle.propagation.proofs.lacking.body_lacks.Goals as goal
 
-pub loop-place-init : goal.loop-place-init
-loop-place-init c = adding_start _ _
+pub sum-requires-clause-can : goal.sum-requires-clause-can
+sum-requires-clause-can c = (
+  tt,
+  serves_from_places (YieldsList-at c.map.ensures.source (YieldsList-from_slice _ c.iter.ensures.rest)) (λ x q r. search rules)
+      (λ x k l e. let known = body_entry c.requires l e in search rules),
+)
 
-pub bounds-literals-place : goal.bounds-literals-place
-bounds-literals-place c = omega (arith, c.loop-place-test.true, c.requires.within)
-
-pub overflow_cast-total : goal.overflow_cast-total
-overflow_cast-total c = omega (arith, c.shared_slice_known-1.given c.loop-place.place)
-
-pub bounds-table-literals : goal.bounds-table-literals
-bounds-table-literals c = c.requires.known _ (omega (arith, c.loop-place-test.true, c.requires.within))
-
-pub overflow_cast-total-in-loop-place : goal.overflow_cast-total-in-loop-place
-overflow_cast-total-in-loop-place c =
-    let one : get_or c.args.table.now (get_or c.args.literals.now c.loop-place.place 0) 0 ≤ 1 =
-    let pre = c.requires in
-    pre.ones c.loop-place.place (omega (arith, c.loop-place-test.true, pre.within)) in
-    omega (arith, one)
-
-pub overflow_add-total : goal.overflow_add-total
-overflow_add-total c =
-    let one : get_or c.args.table.now (get_or c.args.literals.now c.loop-place.place 0) 0 ≤ 1 =
-    let pre = c.requires in
-    pre.ones c.loop-place.place (omega (arith, c.loop-place-test.true, pre.within)) in
-    omega (arith, one, c.loop-place.invariant.small, c.requires.few, c.loop-place-test.true)
-
-pub loop-place-preserved : goal.loop-place-preserved
-loop-place-preserved c =
-    let one : get_or c.args.table.now (get_or c.args.literals.now c.loop-place.place 0) 0 ≤ 1 =
-    let pre = c.requires in
-    pre.ones c.loop-place.place (omega (arith, c.loop-place-test.true, pre.within)) in
-    adding_turn _ _ _ _ c.loop-place-test.true (one) c.loop-place.invariant
+pub sum-requires-clause-fits : goal.sum-requires-clause-fits
+sum-requires-clause-fits c =
+    fits_by_from_yields_list (λ l. get_or c.args.table.now l 0) _ _ _
+    (YieldsList-from_map _ (λ l. get_or c.args.table.now l 0) (YieldsList-at c.map.ensures.source (YieldsList-from_slice _ c.iter.ensures.rest))
+    c.map.ensures.closure (λ x r q k. search rules))
+    (body_few c.requires)
 
 pub returns : goal.returns
-returns c = adding_end _ _ _ _ c.loop-place-test.false c.loop-place.invariant
+returns c =
+    sum_by_from_yields_List (λ l. get_or c.args.table.now l 0) _ _ c.sum.result c.sum.ensures.ran
+    (YieldsList-from_map _ (λ l. get_or c.args.table.now l 0) (YieldsList-at c.map.ensures.source (YieldsList-from_slice _ c.iter.ensures.rest))
+    c.map.ensures.closure (λ x r q k. search rules))
+    ∙ sum_by_places _ _

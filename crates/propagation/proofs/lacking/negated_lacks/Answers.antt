@@ -1,15 +1,12 @@
--- `propagation::lacking::negated_lacks` meets its contract.
-use Rattle.propagation.proofs.LackingLaws.{negated_zero, negated_one, negated_founding, negated_waiting}
+-- `propagation::lacking::negated_lacks` meets its contract: each of its tests is that of the definition.
+use Rattle.wellfounded.proofs.Literals.{true_test, false_test}
+use Rattle.propagation.proofs.LackingLaws.{as_number}
 use Rattle.propagation.proofs.lacking.negated_lacks.Goals as goal
+use Rattle.propagation.proofs.lacking.negated_lacks.Goals.{then-founding, else-founding}
 
-pub returns-then-value-eq0 : goal.returns-then-value-eq0
-returns-then-value-eq0 c = negated_zero c.args.founding _ c.if-value-eq0.true
-
-pub returns-then-value-eq1 : goal.returns-then-value-eq1
-returns-then-value-eq1 c = negated_one c.args.founding _ c.if-value-eq1.true
-
-pub returns-then-founding : goal.returns-then-founding
-returns-then-founding c = negated_founding _ _ c.if-value-eq0.false c.if-value-eq1.false c.if-founding.true
-
-pub returns-else-founding : goal.returns-else-founding
-returns-else-founding c = negated_waiting _ _ c.if-value-eq0.false c.if-value-eq1.false c.if-founding.false
+pub returns : goal.returns
+returns c =
+    elim c.if-founding.branch [
+      | then-founding w ↦ rw (w.result-is, w.if-founding.true, true_test c.args.value) (as_number _)
+      | else-founding w ↦ rw (w.result-is, w.if-founding.false, false_test c.args.value) (as_number _)
+    ]

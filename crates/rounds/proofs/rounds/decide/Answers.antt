@@ -2,26 +2,17 @@
 use native.Mathlib.Omega.{arith}
 use Rattle.wellfounded.proofs.Lists.{count_le}
 use Rattle.rounds.specs.internal.Deciding.{decides}
-use Rattle.rounds.proofs.RoundLaws.{atom_small, deciding_start, deciding_room, deciding_turn, deciding_end}
+use Rattle.rounds.proofs.RoundLaws.{atom_small, deciding_start, deciding_turn, deciding_end}
 use Rattle.rounds.proofs.rounds.decide.Goals as goal
 
 pub loop-atom-init : goal.loop-atom-init
 loop-atom-init c = deciding_start c.requires
-
-pub decide_atom-changed-requires : goal.decide_atom-changed-requires
-decide_atom-changed-requires c = (omega arith, deciding_room c.requires c.loop-atom.invariant)
 
 pub overflow_add-decided : goal.overflow_add-decided
 overflow_add-decided c = omega (arith, c.loop-atom.invariant.many, count_le c.loop-atom.atom (decides c.args.values.now c.args.firing.now c.args.founded.now), atom_small c.decide_atom-changed.ensures)
 
 pub loop-atom-preserved : goal.loop-atom-preserved
 loop-atom-preserved c = deciding_turn c.requires (omega arith) c.decide_atom-changed.ensures c.loop-atom.invariant
-
-pub shape_of-values : goal.shape_of-values
-shape_of-values c = c.loop-atom.invariant.valued.long
-
-pub shape_of-levels : goal.shape_of-levels
-shape_of-levels c = c.loop-atom.invariant.levelled.long
 
 pub returns : goal.returns
 returns c = deciding_end c.requires (omega arith) c.loop-atom.invariant

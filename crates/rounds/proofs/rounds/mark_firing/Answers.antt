@@ -5,17 +5,11 @@ use Rattle.rounds.specs.internal.Firing.{fires_by}
 use Rattle.rounds.proofs.rounds.mark_firing.Goals as goal
 
 pub loop-row-init : goal.loop-row-init
-loop-row-init c = (omega arith, marked_start _ _)
-
-pub fire_row-requires : goal.fire_row-requires
-fire_row-requires c = (omega arith, record { rows = c.requires.rows; room = omega (arith, c.requires.room, c.loop-row.invariant.1.long) })
+loop-row-init c = marked_start _ _
 
 pub loop-row-preserved : goal.loop-row-preserved
-loop-row-preserved c = (omega arith, rw c.fire_row.ensures (marked_look _ _ _ _ _ c.loop-row.invariant.1))
-
-pub shape_of-firing : goal.shape_of-firing
-shape_of-firing c = c.loop-row.invariant.1.long
+loop-row-preserved c = rw c.fire_row.ensures (marked_look _ _ _ _ _ c.loop-row.invariant)
 
 pub returns : goal.returns
 unfolding fires_by
-returns c = marked_end _ _ _ _ _ (omega arith) c.loop-row.invariant.1
+returns c = marked_end _ _ _ _ _ (omega arith) c.loop-row.invariant

@@ -1,5 +1,4 @@
 -- `rounds::rounds::mark_firing` meets its contract: the marks are those of the entry with the atoms that the rows passed make true put on.
-use Prim.Native.Nat.{◌-◌, ◌≤◌}
 use mathlib.Core.Bool.{◌&&◌}
 use lib.Dec.{eqb}
 use Rattle.tables.specs.Rows.{rule_head}
@@ -8,7 +7,4 @@ use Rattle.rounds.specs.internal.Firing.{row_fires}
 use Rattle.rounds.proofs.rounds.mark_firing.Given as goal
 
 abbrev pub invariant-loop-row : goal.invariant-loop-row
-invariant-loop-row l = (l.row ≤ l.rows) × Marked (λ r atom. eqb (rule_head l.rules r) atom && row_fires l.rules l.literals l.values r) l.initial.firing l.row l.firing
-
-abbrev pub decreases-loop-row : goal.decreases-loop-row
-decreases-loop-row l = l.rows - l.row
+invariant-loop-row l = Marked (λ r atom. eqb (rule_head l.rules r) atom && row_fires l.rules l.literals l.values r) l.initial.firing l.row l.firing

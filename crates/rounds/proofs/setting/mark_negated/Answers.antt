@@ -6,23 +6,14 @@ use Rattle.rounds.proofs.SettingLaws.{negated_places}
 use Rattle.rounds.proofs.setting.mark_negated.Goals as goal
 use Rattle.rounds.proofs.setting.mark_negated.Goals.{then-is_negated, else-is_negated}
 
-pub loop-place-init : goal.loop-place-init
-loop-place-init c = (omega arith, marked_start _ _)
+pub loop-literal-init : goal.loop-literal-init
+loop-literal-init c = marked_start _ _
 
-pub bounds-marks-atom_of : goal.bounds-marks-atom_of
-bounds-marks-atom_of c = omega (arith, c.requires _ c.loop-place-test.true)
-
-pub loop-place-preserved : goal.loop-place-preserved
-loop-place-preserved c = (
-  omega arith,
-  elim c.if-is_negated.branch [
-    | then-is_negated w ↦ rw w.marks-is (row_puts _ _ _ _ _ _ w.atom_of.ensures (sym c.is_negated.ensures ∙ w.if-is_negated.true) c.loop-place.invariant.1)
-    | else-is_negated w ↦ rw w.marks-is (row_passes _ _ _ _ _ (sym c.is_negated.ensures ∙ w.if-is_negated.false) c.loop-place.invariant.1)
-  ],
-)
-
-pub shape_of-marks : goal.shape_of-marks
-shape_of-marks c = c.loop-place.invariant.1.long
+pub loop-literal-preserved : goal.loop-literal-preserved
+loop-literal-preserved c = elim c.if-is_negated.branch [
+  | then-is_negated w ↦ rw w.marks-is (row_puts _ _ _ _ _ _ w.atom_of.ensures (sym c.is_negated.ensures ∙ w.if-is_negated.true) c.loop-literal.invariant)
+  | else-is_negated w ↦ rw w.marks-is (row_passes _ _ _ _ _ (sym c.is_negated.ensures ∙ w.if-is_negated.false) c.loop-literal.invariant)
+]
 
 pub returns : goal.returns
-returns c = marked_end _ _ _ _ _ (omega arith) c.loop-place.invariant.1 ∙ mark_same _ _ _ (negated_places _)
+returns c = marked_end _ _ _ _ _ (omega arith) c.loop-literal.invariant ∙ mark_same _ _ _ (negated_places _)

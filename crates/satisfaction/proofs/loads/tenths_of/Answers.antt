@@ -11,12 +11,6 @@ use Rattle.tables.proofs.Signs.{magnitude_fits}
 use Rattle.satisfaction.proofs.LoadLaws.{negative_tenths, other_tenths, counted_back, minutes_most, round_small, tenths_small}
 use Rattle.satisfaction.proofs.loads.tenths_of.Goals as goal
 
-pub round_tenth-rounded-requires : goal.round_tenth-rounded-requires
-round_tenth-rounded-requires c =
-    let magnitude_is : c.magnitude.result ≡ nat_abs c.args.minutes =
-    c.magnitude.ensures ∙ ap nat_abs (to_z-of_z c.ranges.minutes) in
-    omega (arith, magnitude_is, minutes_most c.ranges.minutes)
-
 pub overflow_cast-rounded : goal.overflow_cast-rounded
 overflow_cast-rounded c =
     let magnitude_is : c.magnitude.result ≡ nat_abs c.args.minutes =

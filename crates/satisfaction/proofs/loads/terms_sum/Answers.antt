@@ -1,4 +1,4 @@
--- `satisfaction::loads::terms_sum` meets its contract: the sum so far and the terms from `i` on come to the sum of the row.
+-- `satisfaction::loads::terms_sum` meets its contract: the sum so far and the terms from `place` on come to the sum of the row.
 use Prim.Native.Nat.{ℕ, ◌≤◌}
 use mathlib.Core.List.{List}
 use native.Mathlib.Omega.{arith}
@@ -17,8 +17,8 @@ summed_back :
     Summed values literals minutes size i sum → Summed values literals minutes size i (to_z w32 (of_z w32 sum))
 summed_back {sum} few s = rw (to_z-of_z (magnitude_fits sum (omega (arith, s.small, s.low)))) s
 
-pub loop-i-preserved : goal.loop-i-preserved
-loop-i-preserved c = summed_back c.requires.few (sum_turn (omega arith) (counted_back c.term_count-sum.ensures) c.loop-i.invariant)
+pub loop-place-preserved : goal.loop-place-preserved
+loop-place-preserved c = summed_back c.requires.few (sum_turn (omega arith) (counted_back c.term_count-sum.ensures) c.loop-place.invariant)
 
 pub returns : goal.returns
-returns c = sum_end (omega arith) c.loop-i.invariant
+returns c = sum_end (omega arith) c.loop-place.invariant

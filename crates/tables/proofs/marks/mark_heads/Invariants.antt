@@ -1,5 +1,5 @@
 -- `tables::marks::mark_heads` meets its contract: the marks are those of the entry with the heads of the group's rows among those passed put on.
-use Prim.Native.Nat.{◌-◌, ◌≤◌}
+use Prim.Native.Nat.{◌≤◌}
 use mathlib.Core.Bool.{◌&&◌}
 use lib.Dec.{eqb}
 use Rattle.tables.specs.Rows.{rule_head, in_group}
@@ -7,7 +7,4 @@ use Rattle.tables.proofs.MarkLaws.{Marked}
 use Rattle.tables.proofs.marks.mark_heads.Given as goal
 
 abbrev pub invariant-loop-row : goal.invariant-loop-row
-invariant-loop-row l = (l.row ≤ l.rows) × Marked (λ r atom. eqb (rule_head l.rules r) atom && in_group l.rules l.group r) l.initial.marks l.row l.marks
-
-abbrev pub decreases-loop-row : goal.decreases-loop-row
-decreases-loop-row l = l.rows - l.row
+invariant-loop-row l = (l.row ≤ l.row-end) × Marked (λ r atom. eqb (rule_head l.rules r) atom && in_group l.rules l.group r) l.initial.marks l.row l.marks

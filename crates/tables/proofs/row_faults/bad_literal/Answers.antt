@@ -1,22 +1,12 @@
--- `tables::row_faults::bad_literal` meets its contract: the highest literal is an atom's, so that each is; or no literal before `place` is bad.
+-- `tables::row_faults::bad_literal` meets its contract: the highest literal is an atom's, so that each is; or the search tells.
+use Rattle.std.proofs.lemmas.Iterator.{YieldsList-from_slice}
+use Rattle.std.proofs.lemmas.Iterator.Consumers.{YieldsList-from_copied, max_from_yields_List}
+use Rattle.std.proofs.lemmas.Iterator.Adapters.{option_map_id}
 use mathlib.Core.Path.{sym, ◌∙◌}
-use native.Mathlib.Omega.{arith}
-use Rattle.tables.proofs.Faults.{search_start, search_turn, search_stop, search_end}
 use Rattle.tables.proofs.RowFaults.{none_beyond}
 use Rattle.tables.proofs.row_faults.bad_literal.Goals as goal
 
 pub returns-then-atom_of-atoms : goal.returns-then-atom_of-atoms
 returns-then-atom_of-atoms c = let literals = c.args.literals.now in
-    sym (none_beyond _ _ literals c.highest.ensures (rw c.atom_of.ensures at c.if-atom_of-atoms.true))
-
-pub loop-place-init : goal.loop-place-init
-loop-place-init c = search_start
-
-pub returns-then-literal_is_bad : goal.returns-then-literal_is_bad
-returns-then-literal_is_bad c = search_stop (omega arith) (sym c.literal_is_bad.ensures ∙ c.if-literal_is_bad.true) c.loop-place.invariant
-
-pub loop-place-preserved : goal.loop-place-preserved
-loop-place-preserved c = search_turn (omega arith) (sym c.literal_is_bad.ensures ∙ c.if-literal_is_bad.false) c.loop-place.invariant
-
-pub returns : goal.returns
-returns c = search_end (omega arith) c.loop-place.invariant
+    let is = sym (option_map_id _) ∙ max_from_yields_List c.copied.result _ c.max.ensures.ran (YieldsList-from_copied (YieldsList-from_slice literals cc)) in
+    sym (none_beyond _ literals _ is (rw (c.atom_of.ensures, c.unwrap_or-highest.ensures) at c.if-atom_of-atoms.true))

@@ -1,84 +1,68 @@
--- `tables::sizes::table_fault` meets its contract: each search that finds nothing leaves the verdict to the tests after it.
+-- `tables::sizes::table_fault` meets its contract: each test that is passed leaves the verdict to the tests after it.
 use Prim.Native.Nat.{ℕ}
 use mathlib.Core.Path.{◌≡◌, refl, sym, ap, ◌∙◌}
-use mathlib.Core.Bool.{not}
-use mathlib.Core.List.{List, []}
+use mathlib.Core.Bool.{cond}
+use mathlib.Core.List.{List}
 use lib.ListN.{drop}
-use Rattle.tables.specs.declared.Verdict.TheVariants.{Accepted}
-use Rattle.tables.specs.Faults.{Test, first_fault}
+use Rattle.tables.specs.declared.Fault.TheVariants.{TableSizes}
+use Rattle.tables.specs.Faults.{Test, first_fault, accepted, refused}
 use Rattle.tables.specs.Sound.{lent, table_tests}
-use Rattle.tables.proofs.Faults.{first_passes, first_fails, found_refuses, nothing_leaves, once_passes, once_fails}
 use Rattle.tables.proofs.RowFaults.{sizes_paired}
+use Rattle.tables.proofs.Faults.{absent_alone, require_alone, passed_leaves, refusal_decides, required_held}
 use Rattle.tables.proofs.sizes.table_fault.Goals as goal
 
 -- The verdict is left to the tests from k on.
 abbrev From : ℕ → List Test → Type 0
 From k tests = first_fault tests ≡ first_fault (drop k tests)
 
-none_left : first_fault [] ≡ Accepted
-unfolding first_fault
-none_left = refl
-
-pub returns-then-not-sizes_fit : goal.returns-then-not-sizes_fit
+pub returns-in_err-require : goal.returns-in_err-require
 unfolding lent table_tests
-returns-then-not-sizes_fit c = λ marks. sym (first_fails _ _ _ (once_fails _ (ap not (sym c.sizes_fit.ensures) ∙ c.if-not-sizes_fit.true-raw)))
+returns-in_err-require c = λ marks. refusal_decides _ _ _ _ refl (require_alone _ _ _ (c.require.ensures ∙ ap (λ fit. cond fit accepted (refused TableSizes 0)) c.sizes_fit-fit.ensures)) _ c.in_err-require.was c.from_residual.ensures.1
 
 pub bad_term-requires : goal.bad_term-requires
-bad_term-requires c = sizes_paired _ _ _ _ _ _ _ _ c.sizes_fit.ensures c.if-not-sizes_fit.false-raw
+bad_term-requires c = sizes_paired _ _ _ _ _ _ _ _ c.sizes_fit-fit.ensures (required_held _ _ _ c.require.ensures c.in_ok-require.was)
 
-pub returns-in-At : goal.returns-in-At
+pub returns-in_err-absent : goal.returns-in_err-absent
 unfolding lent table_tests
-returns-in-At c = λ marks.
-    let tests = table_tests (lent c.args.atoms c.args.rules.now c.args.literals.now c.args.clauses.now c.args.loads.now c.args.load_literals.now c.args.minutes.now marks) in
-    let from_1 : From 1 tests = first_passes _ _ (once_passes _ (ap not (sym c.sizes_fit.ensures) ∙ c.if-not-sizes_fit.false-raw)) in
-    found_refuses _ _ _ _ _ from_1 c.bad_rule_row.ensures c.in-At.is
+returns-in_err-absent c = λ marks. let a = c.args in
+    let tests = table_tests (lent a.atoms a.rules.now a.literals.now a.clauses.now a.loads.now a.load_literals.now a.minutes.now marks) in
+    let from_1 : From 1 tests = passed_leaves _ _ _ _ refl (require_alone _ _ _ (c.require.ensures ∙ ap (λ fit. cond fit accepted (refused TableSizes 0)) c.sizes_fit-fit.ensures)) c.in_ok-require.was in
+    refusal_decides _ _ _ _ from_1 (absent_alone _ _ _ c.absent.ensures c.bad_rule_row.ensures) _ c.in_err-absent.was c.from_residual-in_err-absent.ensures.1
 
-pub returns-in-At-bad_clause_row : goal.returns-in-At-bad_clause_row
+pub returns-in_err-absent-2 : goal.returns-in_err-absent-2
 unfolding lent table_tests
-returns-in-At-bad_clause_row c = λ marks.
-    let tests = table_tests (lent c.args.atoms c.args.rules.now c.args.literals.now c.args.clauses.now c.args.loads.now c.args.load_literals.now c.args.minutes.now marks) in
-    let from_1 : From 1 tests = first_passes _ _ (once_passes _ (ap not (sym c.sizes_fit.ensures) ∙ c.if-not-sizes_fit.false-raw)) in
-    let from_2 : From 2 tests = nothing_leaves _ _ _ _ from_1 c.bad_rule_row.ensures c.in_default.is in
-    found_refuses _ _ _ _ _ from_2 c.bad_clause_row.ensures c.in-At-bad_clause_row.is
+returns-in_err-absent-2 c = λ marks. let a = c.args in
+    let tests = table_tests (lent a.atoms a.rules.now a.literals.now a.clauses.now a.loads.now a.load_literals.now a.minutes.now marks) in
+    let from_1 : From 1 tests = passed_leaves _ _ _ _ refl (require_alone _ _ _ (c.require.ensures ∙ ap (λ fit. cond fit accepted (refused TableSizes 0)) c.sizes_fit-fit.ensures)) c.in_ok-require.was in
+    let from_2 : From 2 tests = passed_leaves _ _ _ _ from_1 (absent_alone _ _ _ c.absent.ensures c.bad_rule_row.ensures) c.in_ok-absent.was in
+    refusal_decides _ _ _ _ from_2 (absent_alone _ _ _ c.absent-2.ensures c.bad_clause_row.ensures) _ c.in_err-absent-2.was c.from_residual-in_err-absent-2.ensures.1
 
-pub returns-in-At-bad_load_row : goal.returns-in-At-bad_load_row
+pub returns-in_err-absent-3 : goal.returns-in_err-absent-3
 unfolding lent table_tests
-returns-in-At-bad_load_row c = λ marks.
-    let tests = table_tests (lent c.args.atoms c.args.rules.now c.args.literals.now c.args.clauses.now c.args.loads.now c.args.load_literals.now c.args.minutes.now marks) in
-    let from_1 : From 1 tests = first_passes _ _ (once_passes _ (ap not (sym c.sizes_fit.ensures) ∙ c.if-not-sizes_fit.false-raw)) in
-    let from_2 : From 2 tests = nothing_leaves _ _ _ _ from_1 c.bad_rule_row.ensures c.in_default.is in
-    let from_3 : From 3 tests = nothing_leaves _ _ _ _ from_2 c.bad_clause_row.ensures c.in_default-bad_clause_row.is in
-    found_refuses _ _ _ _ _ from_3 c.bad_load_row.ensures c.in-At-bad_load_row.is
+returns-in_err-absent-3 c = λ marks. let a = c.args in
+    let tests = table_tests (lent a.atoms a.rules.now a.literals.now a.clauses.now a.loads.now a.load_literals.now a.minutes.now marks) in
+    let from_1 : From 1 tests = passed_leaves _ _ _ _ refl (require_alone _ _ _ (c.require.ensures ∙ ap (λ fit. cond fit accepted (refused TableSizes 0)) c.sizes_fit-fit.ensures)) c.in_ok-require.was in
+    let from_2 : From 2 tests = passed_leaves _ _ _ _ from_1 (absent_alone _ _ _ c.absent.ensures c.bad_rule_row.ensures) c.in_ok-absent.was in
+    let from_3 : From 3 tests = passed_leaves _ _ _ _ from_2 (absent_alone _ _ _ c.absent-2.ensures c.bad_clause_row.ensures) c.in_ok-absent-2.was in
+    refusal_decides _ _ _ _ from_3 (absent_alone _ _ _ c.absent-3.ensures c.bad_load_row.ensures) _ c.in_err-absent-3.was c.from_residual-in_err-absent-3.ensures.1
 
-pub returns-in-At-bad_literal : goal.returns-in-At-bad_literal
+pub returns-in_err-absent-4 : goal.returns-in_err-absent-4
 unfolding lent table_tests
-returns-in-At-bad_literal c = λ marks.
-    let tests = table_tests (lent c.args.atoms c.args.rules.now c.args.literals.now c.args.clauses.now c.args.loads.now c.args.load_literals.now c.args.minutes.now marks) in
-    let from_1 : From 1 tests = first_passes _ _ (once_passes _ (ap not (sym c.sizes_fit.ensures) ∙ c.if-not-sizes_fit.false-raw)) in
-    let from_2 : From 2 tests = nothing_leaves _ _ _ _ from_1 c.bad_rule_row.ensures c.in_default.is in
-    let from_3 : From 3 tests = nothing_leaves _ _ _ _ from_2 c.bad_clause_row.ensures c.in_default-bad_clause_row.is in
-    let from_4 : From 4 tests = nothing_leaves _ _ _ _ from_3 c.bad_load_row.ensures c.in_default-bad_load_row.is in
-    found_refuses _ _ _ _ _ from_4 c.bad_literal.ensures c.in-At-bad_literal.is
-
-pub returns-in-At-bad_term : goal.returns-in-At-bad_term
-unfolding lent table_tests
-returns-in-At-bad_term c = λ marks.
-    let tests = table_tests (lent c.args.atoms c.args.rules.now c.args.literals.now c.args.clauses.now c.args.loads.now c.args.load_literals.now c.args.minutes.now marks) in
-    let from_1 : From 1 tests = first_passes _ _ (once_passes _ (ap not (sym c.sizes_fit.ensures) ∙ c.if-not-sizes_fit.false-raw)) in
-    let from_2 : From 2 tests = nothing_leaves _ _ _ _ from_1 c.bad_rule_row.ensures c.in_default.is in
-    let from_3 : From 3 tests = nothing_leaves _ _ _ _ from_2 c.bad_clause_row.ensures c.in_default-bad_clause_row.is in
-    let from_4 : From 4 tests = nothing_leaves _ _ _ _ from_3 c.bad_load_row.ensures c.in_default-bad_load_row.is in
-    let from_5 : From 5 tests = nothing_leaves _ _ _ _ from_4 c.bad_literal.ensures c.in_default-bad_literal.is in
-    found_refuses _ _ _ _ _ from_5 c.bad_term.ensures c.in-At-bad_term.is
+returns-in_err-absent-4 c = λ marks. let a = c.args in
+    let tests = table_tests (lent a.atoms a.rules.now a.literals.now a.clauses.now a.loads.now a.load_literals.now a.minutes.now marks) in
+    let from_1 : From 1 tests = passed_leaves _ _ _ _ refl (require_alone _ _ _ (c.require.ensures ∙ ap (λ fit. cond fit accepted (refused TableSizes 0)) c.sizes_fit-fit.ensures)) c.in_ok-require.was in
+    let from_2 : From 2 tests = passed_leaves _ _ _ _ from_1 (absent_alone _ _ _ c.absent.ensures c.bad_rule_row.ensures) c.in_ok-absent.was in
+    let from_3 : From 3 tests = passed_leaves _ _ _ _ from_2 (absent_alone _ _ _ c.absent-2.ensures c.bad_clause_row.ensures) c.in_ok-absent-2.was in
+    let from_4 : From 4 tests = passed_leaves _ _ _ _ from_3 (absent_alone _ _ _ c.absent-3.ensures c.bad_load_row.ensures) c.in_ok-absent-3.was in
+    refusal_decides _ _ _ _ from_4 (absent_alone _ _ _ c.absent-4.ensures c.bad_literal.ensures) _ c.in_err-absent-4.was c.from_residual-in_err-absent-4.ensures.1
 
 pub returns : goal.returns
 unfolding lent table_tests
-returns c = λ marks.
-    let tests = table_tests (lent c.args.atoms c.args.rules.now c.args.literals.now c.args.clauses.now c.args.loads.now c.args.load_literals.now c.args.minutes.now marks) in
-    let from_1 : From 1 tests = first_passes _ _ (once_passes _ (ap not (sym c.sizes_fit.ensures) ∙ c.if-not-sizes_fit.false-raw)) in
-    let from_2 : From 2 tests = nothing_leaves _ _ _ _ from_1 c.bad_rule_row.ensures c.in_default.is in
-    let from_3 : From 3 tests = nothing_leaves _ _ _ _ from_2 c.bad_clause_row.ensures c.in_default-bad_clause_row.is in
-    let from_4 : From 4 tests = nothing_leaves _ _ _ _ from_3 c.bad_load_row.ensures c.in_default-bad_load_row.is in
-    let from_5 : From 5 tests = nothing_leaves _ _ _ _ from_4 c.bad_literal.ensures c.in_default-bad_literal.is in
-    let from_6 : From 6 tests = nothing_leaves _ _ _ _ from_5 c.bad_term.ensures c.in_default-bad_term.is in
-    sym (from_6 ∙ none_left)
+returns c = λ marks. let a = c.args in
+    let tests = table_tests (lent a.atoms a.rules.now a.literals.now a.clauses.now a.loads.now a.load_literals.now a.minutes.now marks) in
+    let from_1 : From 1 tests = passed_leaves _ _ _ _ refl (require_alone _ _ _ (c.require.ensures ∙ ap (λ fit. cond fit accepted (refused TableSizes 0)) c.sizes_fit-fit.ensures)) c.in_ok-require.was in
+    let from_2 : From 2 tests = passed_leaves _ _ _ _ from_1 (absent_alone _ _ _ c.absent.ensures c.bad_rule_row.ensures) c.in_ok-absent.was in
+    let from_3 : From 3 tests = passed_leaves _ _ _ _ from_2 (absent_alone _ _ _ c.absent-2.ensures c.bad_clause_row.ensures) c.in_ok-absent-2.was in
+    let from_4 : From 4 tests = passed_leaves _ _ _ _ from_3 (absent_alone _ _ _ c.absent-3.ensures c.bad_load_row.ensures) c.in_ok-absent-3.was in
+    let from_5 : From 5 tests = passed_leaves _ _ _ _ from_4 (absent_alone _ _ _ c.absent-4.ensures c.bad_literal.ensures) c.in_ok-absent-4.was in
+    absent_alone _ _ _ c.absent-5.ensures c.bad_term.ensures ∙ sym from_5

@@ -17,4 +17,4 @@ loop-row-preserved c = summing_turn _ _ _ _ _ _ (omega arith) c.rule_size-total.
 pub returns : goal.returns
 unfolding literals_by_rule rule_count
 returns c = let sum = summing_end _ _ _ _ _ (omega arith) c.loop-row.invariant in
-    (rw c.rule_count-rows.ensures at sum.0, omega arith)
+    (rw c.rule_count-row-end.ensures at sum.0, omega arith)

@@ -1,21 +1,23 @@
 -- `writing::book::put_claim` meets its contract: word, pairs and end of the line stand one behind the other.
 use native.Mathlib.Omega.{arith}
-use lib.ListN.{length}
-use Rattle.writing.proofs.TextLaws.{parts_length, puts_parts, claim_parts}
+use lib.ListN.{length, length-append}
+use Rattle.printing.proofs.PutLaws.{puts_then}
+use Rattle.writing.proofs.TextLaws.{parts_length, claim_parts}
 use Rattle.writing.proofs.book.put_claim.Goals as goal
 
 pub put-begun-requires : goal.put-begun-requires
 put-begun-requires c = omega (arith, parts_length (claim_parts (length c.args.values.now) c.args.groups c.args.values.now c.args.levels.now))
 
-pub put_pairs-paired-requires : goal.put_pairs-paired-requires
-put_pairs-paired-requires c = let long = parts_length (claim_parts (length c.args.values.now) c.args.groups c.args.values.now c.args.levels.now) in
-    record {
-      levels_len = c.requires.levels_len;
-      levels_in_bounds = omega (arith, c.requires.levels_in_bounds, c.put-begun.ensures.answered);
-    }
-
-pub put-requires : goal.put-requires
-put-requires c = omega (arith, parts_length (claim_parts (length c.args.values.now) c.args.groups c.args.values.now c.args.levels.now))
+pub put_line-requires-clause-room : goal.put_line-requires-clause-room
+put_line-requires-clause-room c =
+    rw length-append
+    (omega (
+      arith,
+      parts_length (claim_parts (length c.args.values.now) c.args.groups c.args.values.now c.args.levels.now),
+      c.requires.levels_in_bounds,
+      c.put-begun.ensures.answered,
+    ))
 
 pub returns : goal.returns
-returns c = puts_parts (claim_parts _ _ _ _) c.put-begun.ensures c.put_pairs-paired.ensures c.put.ensures
+returns c =
+    rw (claim_parts (length c.args.values.now) c.args.groups c.args.values.now c.args.levels.now).is (puts_then c.put-begun.ensures c.put_line.ensures)

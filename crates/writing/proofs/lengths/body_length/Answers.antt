@@ -1,16 +1,10 @@
--- `writing::lengths::body_length` meets its contract: the literals of the part that begins at `start`, and two bytes behind them.
+-- `writing::lengths::body_length` meets its contract: the literals of the part that begins at `start`, and the end of the line.
 use native.Mathlib.Omega.{arith}
-use Rattle.writing.proofs.RowLaws.{from_within, body_length}
+use Rattle.writing.proofs.RowLaws.{body_joined}
 use Rattle.writing.proofs.lengths.body_length.Goals as goal
-
-pub literals_length-requires : goal.literals_length-requires
-literals_length-requires c = (from_within c.args.literals.now c.args.start c.args.size c.requires.0, c.requires.1)
-
-pub overflow_add-result : goal.overflow_add-result
-overflow_add-result c = omega (arith, c.literals_length.ensures.few, c.requires.1)
 
 pub returns : goal.returns
 returns c = record {
-  is = omega (arith, c.literals_length.ensures.is, body_length c.args.literals.now c.args.start c.args.size c.requires.0);
-  few = omega (arith, c.literals_length.ensures.few, c.requires.1);
+  is = rw (body_joined c.args.literals.now c.args.start c.args.size c.requires.0) c.line_length.ensures.is;
+  few = omega (arith, c.line_length.ensures.few, c.requires.1);
 }

@@ -17,4 +17,4 @@ loop-row-preserved c = summing_turn _ _ _ _ _ _ (omega arith) c.clause_size-tota
 pub returns : goal.returns
 unfolding clause_count
 returns c = let sum = summing_end _ _ _ _ _ (omega arith) c.loop-row.invariant in
-    (rw c.clause_count-rows.ensures at sum.0, omega arith)
+    (rw c.clause_count-row-end.ensures at sum.0, omega arith)

@@ -16,4 +16,4 @@ loop-row-preserved c = summing_turn _ _ _ _ _ _ (omega arith) c.load_size-total.
 
 pub returns : goal.returns
 unfolding load_count
-returns c = rw c.load_count-rows.ensures at (summing_end _ _ _ _ _ (omega arith) c.loop-row.invariant).0
+returns c = rw c.load_count-row-end.ensures at (summing_end _ _ _ _ _ (omega arith) c.loop-row.invariant).0
