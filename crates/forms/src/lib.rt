@@ -143,11 +143,15 @@ pub fn read_load_form(
     if !byte_at(text, at, b' ') {
         return None;
     }
-    let (low, after) = read_signed(text, at + 1)?;
+    let Some((low, after)) = read_signed(text, at + 1) else {
+        return None;
+    };
     if !byte_at(text, after, b' ') {
         return None;
     }
-    let (high, next) = read_signed(text, after + 1)?;
+    let Some((high, next)) = read_signed(text, after + 1) else {
+        return None;
+    };
     let start = reached.terms;
     let (parts, end) = read_terms(text, next, load_literals, minutes, start)?;
     store_load(loads, reached.loads, low, high, start, parts.count);

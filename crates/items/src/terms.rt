@@ -20,11 +20,15 @@ pub fn read_term(text: &[u8], at: usize) -> Option<(Term, usize)>
     if !byte_at(text, at, b'(') {
         return None;
     }
-    let (minutes, after) = read_signed(text, at + 1)?;
+    let Some((minutes, after)) = read_signed(text, at + 1) else {
+        return None;
+    };
     if !byte_at(text, after, b' ') {
         return None;
     }
-    let (literal, next) = read_literal(text, after + 1)?;
+    let Some((literal, next)) = read_literal(text, after + 1) else {
+        return None;
+    };
     if !byte_at(text, next, b')') {
         return None;
     }

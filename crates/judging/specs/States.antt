@@ -8,13 +8,13 @@ use Rattle.format.specs.declared.kinds.Kind.TheVariants.{Atoms, Rule, Clause, Lo
 use Rattle.format.specs.Forms.{Form}
 use Rattle.format.specs.Views.{view_of, kind_in, same_kind}
 use Rattle.judging.specs.declared.reached.Phase.{Phase}
-use Rattle.judging.specs.declared.reached.Phase.TheVariants.{NothingYet, AtomsStood, InRules, InClauses, InLoads, OpenStood, ClaimStood}
+use Rattle.judging.specs.declared.reached.Phase.TheVariants.{NothingYet, AtomsStood, InRules, InClauses, InLoads, OpenStood, ClaimStood, Past}
 use Rattle.judging.specs.declared.reached.Reached.{Reached}
 use Rattle.judging.specs.declared.reached.Space.{Space}
 use Rattle.judging.specs.LentTables.{Table, Rules, Literals, Clauses, Loads, LoadLiterals, Minutes, Marks, Values, Levels, every_table, room_in}
 
 -- The place of a phase in the order of a text: nothing was read yet; the atoms form was read last; the defined form or a rule was, or a clause, or
--- a load line; an open form or a claim stood.
+-- a load line; an open form or a claim stood. `Past` is any that comes after these: no text reaches it, but a caller's state may say so.
 abbrev pub rank : Phase → ℕ
 rank NothingYet = 0
 rank AtomsStood = 1
@@ -23,6 +23,7 @@ rank InClauses = 3
 rank InLoads = 4
 rank OpenStood = 5
 rank ClaimStood = 6
+rank Past = 7
 
 -- The phase, the number of atoms, and the entries counted for each table that grows from line to line. Before the first line nothing was
 -- read, and all counts are 0.

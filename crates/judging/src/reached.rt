@@ -14,7 +14,7 @@ use tables::sizes::{
 };
 
 // The phases of a text, in their order: nothing was read yet; the atoms form was read last; the defined form or a rule was, or a clause, or a load
-// line; an open form or a claim stood.
+// line; an open form or a claim stood. `Past` is any that comes after these: no text reaches it, but a caller's state may say so.
 #[derive(Clone, Copy, PartialEq, Eq, PartialOrd, Ord)]
 pub enum Phase {
     NothingYet,
@@ -24,6 +24,7 @@ pub enum Phase {
     InLoads,
     OpenStood,
     ClaimStood,
+    Past,
 }
 
 // The phase of the text, the number of atoms, and the entries counted for each table that grows from line to line.

@@ -53,7 +53,9 @@ pub fn read_literals(
     let mut count = 0;
     let mut within = true;
     while byte_at(text, next, b' ') {
-        let (literal, after) = read_literal(text, next + 1)?;
+        let Some((literal, after)) = read_literal(text, next + 1) else {
+            return None;
+        };
         store(literals, from + count, literal);
         within = within & (literal < LITERAL_CODES);
         count += 1;
@@ -91,7 +93,9 @@ pub fn read_terms(
     let mut count = 0;
     let mut within = true;
     while byte_at(text, next, b' ') {
-        let (term, after) = read_term(text, next + 1)?;
+        let Some((term, after)) = read_term(text, next + 1) else {
+            return None;
+        };
         store(load_literals, from + count, term.literal);
         store_minutes(minutes, from + count, term.minutes);
         within = within & (minutes_within(term.minutes) & (term.literal < LITERAL_CODES));
@@ -165,7 +169,9 @@ fn read_values(
     let mut within = true;
     let mut levelled = true;
     while byte_at(text, next, b' ') {
-        let (pair, after) = read_pair(text, next + 1, 0)?;
+        let Some((pair, after)) = read_pair(text, next + 1, 0) else {
+            return None;
+        };
         store_value(values, count, pair.value);
         store(levels, count, pair.levels.level);
         within = within & ((pair.value <= MAX_VALUE) & pair.levels.within);

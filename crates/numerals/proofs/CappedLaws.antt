@@ -17,6 +17,10 @@ pub capped_small : (n : ℕ) → n ≤ beyond_limits → capped n ≡ n
 unfolding capped
 capped_small n l = omega arith
 
+pub capped_large : (n : ℕ) → beyond_limits ≤ n → capped n ≡ beyond_limits
+unfolding capped
+capped_large n l = omega arith
+
 pub capped_limit : (n : ℕ) → capped n ≤ beyond_limits
 unfolding capped
 capped_limit n = omega arith

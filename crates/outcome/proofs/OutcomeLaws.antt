@@ -29,7 +29,7 @@ use Rattle.judging.specs.declared.reached.Reached.{Reached}
 use Rattle.judging.specs.declared.reached.Space.{Space}
 use Rattle.judging.specs.LentTables.{Table, Rules, Literals, Clauses, Loads, LoadLiterals, Minutes, Marks, Values, Levels, full_size, space_with}
 use Rattle.judging.specs.declared.reached.Phase.{Phase}
-use Rattle.judging.specs.declared.reached.Phase.TheVariants.{NothingYet, AtomsStood, InRules, InClauses, InLoads, OpenStood, ClaimStood}
+use Rattle.judging.specs.declared.reached.Phase.TheVariants.{NothingYet, AtomsStood, InRules, InClauses, InLoads, OpenStood, ClaimStood, Past}
 use Rattle.judging.specs.States.{rank, count_in}
 use Rattle.judging.specs.Judging.{failed, judge_text, forms_of}
 use Rattle.judging.proofs.TableLaws.{each_table}
@@ -211,6 +211,7 @@ module _ (s : Reached) (used held : Contents) (counts : (table : Table) → leng
       step InRules e = refl
       step InClauses e = refl
       step InLoads e = refl
+      step Past e = refl
 
 -- A text that was read: the answer fits the tables afterwards, and their used parts make the outcome of the text.
 pub record Read (text : List ℕ) (book : Book) (afterwards : Contents) : Type 0 where

@@ -17,7 +17,7 @@ use Rattle.tables.specs.declared.Refusal.{Refusal}
 use Rattle.judging.specs.declared.reached.Reached.{Reached}
 use Rattle.judging.specs.LentTables.{Table, Values, Levels}
 use Rattle.judging.specs.declared.reached.Phase.{Phase}
-use Rattle.judging.specs.declared.reached.Phase.TheVariants.{NothingYet, AtomsStood, InRules, InClauses, InLoads, OpenStood, ClaimStood}
+use Rattle.judging.specs.declared.reached.Phase.TheVariants.{NothingYet, AtomsStood, InRules, InClauses, InLoads, OpenStood, ClaimStood, Past}
 use Rattle.judging.specs.States.{rank, start, groups_reached, count_in}
 use Rattle.judging.specs.Judging.{numbers_within, parts_in_order, levelled, judge_text, forms_of}
 use Rattle.judging.specs.Books.{after_all, InSequence, BookText}
@@ -69,6 +69,7 @@ state_claims AtomsStood e = let z : ◌≡◌ {A = ℕ} 0 2 = ap state_number e 
 state_claims InRules e = let z : ◌≡◌ {A = ℕ} 0 2 = ap state_number e in absurd (omega arith)
 state_claims InClauses e = let z : ◌≡◌ {A = ℕ} 0 2 = ap state_number e in absurd (omega arith)
 state_claims InLoads e = let z : ◌≡◌ {A = ℕ} 0 2 = ap state_number e in absurd (omega arith)
+state_claims Past e = let z : ◌≡◌ {A = ℕ} 0 2 = ap state_number e in absurd (omega arith)
 
 answer_claims : (j : Result Reached Refusal) → (answer_of j).state ≡ ClaimState → (s : Reached) × (j ≡ Ok s) × (s.phase ≡ ClaimStood)
 unfolding answer_of

@@ -6,12 +6,15 @@ ghost use Rattle.tables.specs.internal.Marks.{is_marked, mark_where, Copied, Unm
 
 use super::rows::{rule_count, rule_group, rule_head};
 
-// Copies marks, or values, to the front of others.
+// Copies marks, or values, to the front of others. A `for` and not `copy_from_slice`: of slices that might overlap the machine's code for that calls
+// `memmove`, which the library for C would then need from outside.
 pub fn copy_marks(marks: &[u8], defined: &mut [u8])
     requires { length marks.now ≤ length defined.old }
     ensures { Copied marks.now defined.old defined.new }
 {
-    defined[..marks.len()].copy_from_slice(marks);
+    for (atom, mark) in marks.iter().enumerate() {
+        defined[atom] = *mark;
+    }
 }
 
 // Marks the atoms that a book declares defined, which it does in group 0 alone, in an array without marks.

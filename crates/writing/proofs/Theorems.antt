@@ -23,7 +23,7 @@ use Rattle.tables.proofs.Faults.{absent_none, absent_more, accepted_absent, abse
 use Rattle.tables.proofs.Positions.{position_more, position_none, lent_position}
 use Rattle.judging.specs.Judging.{max_bytes}
 use Rattle.writing.specs.BookForms.{text_of}
-use Rattle.writing.specs.Writing.{literals_by_row, rows_fit, bytes_fit, text_test, write_tests, write_of, written_of, TextFits, length_in}
+use Rattle.writing.specs.Writing.{literals_by_row, rows_fit, bytes_fit, text_test, write_tests, write_of, Written, written_of, buffer_after, Writes, TextFits, length_in}
 
 module _ (t : Tables) (values levels : List ℕ) (room : ℕ) where
   -- 32 does not occur exactly if literals, terms and bytes are within the limits of a text, and the bytes within the buffer.
@@ -86,6 +86,17 @@ module _ (t : Tables) (values levels : List ℕ) (room : ℕ) where
       by : (v : Verdict) → (v ≡ accepted → length (text_of t values levels) ≤ max_bytes) → length_in (written_of v (text_of t values levels)) ≤ max_bytes
       by (Ok nothing) short = short refl
       by (Err refusal) short = omega arith
+
+-- A refused call of `write` writes nothing and tells the length 0.
+pub refused_tells_nothing :
+    {t : Tables} {values levels before : List ℕ} {answer : Written} {afterwards : List ℕ} {fault : Fault} {position : ℕ} →
+    Writes t values levels before answer afterwards → write_of t values levels (length before) ≡ refused fault position →
+    (length_in answer ≡ 0) × (afterwards ≡ before)
+unfolding written_of buffer_after
+refused_tells_nothing {t} {values} {levels} {before} w e = (
+  ap length_in (w.answered ∙ ap (λ v. written_of v (text_of t values levels)) e),
+  w.written ∙ ap (λ v. buffer_after v (text_of t values levels) before) e,
+)
 
 -- A refusal of the writer has a number of 11 to 17, 31 or 32; so none judges a value or a level (21, 22).
 abbrev writers_fault : Fault → Bool

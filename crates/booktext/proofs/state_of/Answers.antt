@@ -1,7 +1,7 @@
 -- `booktext::state_of` meets its contract: each way out is a case of the definition.
 use mathlib.Core.Path.{◌≡◌, refl}
 use Rattle.judging.specs.declared.reached.Phase.{Phase}
-use Rattle.judging.specs.declared.reached.Phase.TheVariants.{NothingYet, AtomsStood, InRules, InClauses, InLoads, OpenStood, ClaimStood}
+use Rattle.judging.specs.declared.reached.Phase.TheVariants.{NothingYet, AtomsStood, InRules, InClauses, InLoads, OpenStood, ClaimStood, Past}
 use Rattle.booktext.specs.declared.StateForm.TheVariants.{NoState}
 use Rattle.booktext.specs.Answers.{state_of}
 use Rattle.booktext.proofs.state_of.Goals as goal
@@ -16,6 +16,7 @@ others InClauses o c = refl
 others InLoads o c = refl
 others OpenStood o c = absurd (o refl)
 others ClaimStood o c = absurd (c refl)
+others Past o c = refl
 
 pub returns-in-OpenStood : goal.returns-in-OpenStood
 unfolding state_of

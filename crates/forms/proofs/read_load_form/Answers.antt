@@ -20,37 +20,36 @@ use Rattle.forms.proofs.read_load_form.Goals as goal
 pub returns-then-not-byte_at : goal.returns-then-not-byte_at
 returns-then-not-byte_at c = load_unspaced _ _ (sym c.byte_at.ensures ∙ c.if-not-byte_at.true)
 
-pub returns-in_err-low : goal.returns-in_err-low
-returns-in_err-low c =
-    rw c.from_residual.ensures (load_lowless _ _ (sym c.byte_at.ensures ∙ c.if-not-byte_at.false) (sym c.in_err-low.ensures))
+pub returns-in_default : goal.returns-in_default
+returns-in_default c =
+    load_lowless _ _ (sym c.byte_at.ensures ∙ c.if-not-byte_at.false) (sym c.in_default.ensures)
 
 pub returns-then-not-byte_at-2 : goal.returns-then-not-byte_at-2
 returns-then-not-byte_at-2 c =
-    load_one_bound _ _ (sym c.byte_at.ensures ∙ c.if-not-byte_at.false) (sym c.in_ok-low.ensures) (sym c.byte_at-2.ensures ∙ c.if-not-byte_at-2.true)
+    load_one_bound _ _ (sym c.byte_at.ensures ∙ c.if-not-byte_at.false) (sym c.in-Some.ensures) (sym c.byte_at-2.ensures ∙ c.if-not-byte_at-2.true)
 
 pub overflow_add-after : goal.overflow_add-after
 overflow_add-after c = let l = (byte_got _ _ _ (sym c.byte_at-2.ensures ∙ c.if-not-byte_at-2.false)).1 in search rules
 
-pub returns-in_err-high : goal.returns-in_err-high
-returns-in_err-high c =
+pub returns-in_default-read_signed : goal.returns-in_default-read_signed
+returns-in_default-read_signed c =
     let again = sym c.byte_at-2.ensures ∙ c.if-not-byte_at-2.false in
-    rw c.from_residual-in_err-high.ensures
-    (load_highless _ _ (sym c.byte_at.ensures ∙ c.if-not-byte_at.false) (sym c.in_ok-low.ensures) again (sym c.in_err-high.ensures))
+    load_highless _ _ (sym c.byte_at.ensures ∙ c.if-not-byte_at.false) (sym c.in-Some.ensures) again (sym c.in_default-read_signed.ensures)
 
 pub read_terms-requires : goal.read_terms-requires
 read_terms-requires c =
-    let n = signed_after _ _ (sym c.byte_at-2.ensures ∙ c.if-not-byte_at-2.false) (sym c.in_ok-high.ensures) in
+    let n = signed_after _ _ (sym c.byte_at-2.ensures ∙ c.if-not-byte_at-2.false) (sym c.in-Some-read_signed.ensures) in
     record { inside = record { reached = n.2.inside; short = c.requires.inside.short }; from_le_max_terms = (counts_within_lem _ c.requires.reached_value).terms }
 
 pub returns-in_err-parts : goal.returns-in_err-parts
 returns-in_err-parts c =
     let again = sym c.byte_at-2.ensures ∙ c.if-not-byte_at-2.false in
-    rw c.from_residual-in_err-parts.ensures
-    (load_listless _ _ (sym c.byte_at.ensures ∙ c.if-not-byte_at.false) (sym c.in_ok-low.ensures) again (sym c.in_ok-high.ensures) c.in_err-parts.ensures refl)
+    rw c.from_residual.ensures
+    (load_listless _ _ (sym c.byte_at.ensures ∙ c.if-not-byte_at.false) (sym c.in-Some.ensures) again (sym c.in-Some-read_signed.ensures) c.in_err-parts.ensures refl)
 
 pub store_load-requires : goal.store_load-requires
 store_load-requires c = let bounds = counts_within_lem _ c.requires.reached_value in
-    let small = count_small term_bytes read_term term_inverse c.in_ok-high.next c.requires.inside c.in_ok-parts.ensures refl in
+    let small = count_small term_bytes read_term term_inverse c.in-Some-read_signed.next c.requires.inside c.in_ok-parts.ensures refl in
     (bounds.loads, omega (arith, bounds.terms), small)
 
 pub returns : goal.returns
@@ -58,8 +57,8 @@ unfolding kind_number load_row of_kind same_kind terms_in view_of
 returns c =
     let once = sym c.byte_at.ensures ∙ c.if-not-byte_at.false in
     let again = sym c.byte_at-2.ensures ∙ c.if-not-byte_at-2.false in
-    let kept = signed_kept _ _ once (sym c.in_ok-low.ensures) in
-    let held = signed_kept _ _ again (sym c.in_ok-high.ensures) in
-    load_formed _ _ once (sym c.in_ok-low.ensures) again (sym c.in_ok-high.ensures) c.in_ok-parts.ensures
+    let kept = signed_kept _ _ once (sym c.in-Some.ensures) in
+    let held = signed_kept _ _ again (sym c.in-Some-read_signed.ensures) in
+    load_formed _ _ once (sym c.in-Some.ensures) again (sym c.in-Some-read_signed.ensures) c.in_ok-parts.ensures
     (c.bound_within.ensures ∙ ap (λ (z : ℤ). leb (nat_abs z) max_bound) kept) (c.bound_within-2.ensures ∙ ap (λ (z : ℤ). leb (nat_abs z) max_bound) held)
     refl (λ lo hi ts d e n w. (rw (← (kept ∙ d), ← (held ∙ e), ← n) c.store_load.ensures, w.0, w.1))

@@ -28,13 +28,13 @@ overflow_add-next c =
     sym c.byte_at.ensures ∙ c.loop-next-test.true in
     let l = (byte_got _ _ _ (spaced)).1 in search rules
 
-pub returns-in_err-literal : goal.returns-in_err-literal
+pub returns-in_default : goal.returns-in_default
 unfolding LaidLiterals
-returns-in_err-literal c =
+returns-in_default c =
     let spaced : word_at c.args.text.now c.loop-next.next (space ∷ []) ≡ true =
     sym c.byte_at.ensures ∙ c.loop-next-test.true in
-    listing_refused literal_bytes read_literal literal_inverse c.loop-next.invariant c.from_residual.ensures (spaced)
-    (read_none _ _ _ _ (sym c.in_err-literal.ensures))
+    listing_refused literal_bytes read_literal literal_inverse c.loop-next.invariant refl (spaced)
+    (read_none _ _ _ _ (sym c.in_default.ensures))
 
 pub overflow_add-from : goal.overflow_add-from
 overflow_add-from c = let inv = c.loop-next.invariant in omega (arith, c.requires.from_le_max_literals, c.requires.inside.short, inv.counted, inv.came.counted, inv.came.inside)
@@ -46,16 +46,16 @@ pub loop-next-smaller : goal.loop-next-smaller
 loop-next-smaller c =
     let spaced : word_at c.args.text.now c.loop-next.next (space ∷ []) ≡ true =
     sym c.byte_at.ensures ∙ c.loop-next-test.true in
-    let read : (l : LiteralText) × (c.in_ok-literal.literal ≡ capped_code l) × GotAt read_literal c.args.text.now (c.loop-next.next + 1) c.in_ok-literal.after l =
-    literal_got (omega (arith, (byte_got _ _ _ (spaced)).1)) (sym c.in_ok-literal.ensures) in
+    let read : (l : LiteralText) × (c.in-Some.literal ≡ capped_code l) × GotAt read_literal c.args.text.now (c.loop-next.next + 1) c.in-Some.after l =
+    literal_got (omega (arith, (byte_got _ _ _ (spaced)).1)) (sym c.in-Some.ensures) in
     let got = read in omega (arith, got.2.on, got.2.inside)
 
 pub loop-next-preserved : goal.loop-next-preserved
 loop-next-preserved c =
     let spaced : word_at c.args.text.now c.loop-next.next (space ∷ []) ≡ true =
     sym c.byte_at.ensures ∙ c.loop-next-test.true in
-    let read : (l : LiteralText) × (c.in_ok-literal.literal ≡ capped_code l) × GotAt read_literal c.args.text.now (c.loop-next.next + 1) c.in_ok-literal.after l =
-    literal_got (omega (arith, (byte_got _ _ _ (spaced)).1)) (sym c.in_ok-literal.ensures) in
+    let read : (l : LiteralText) × (c.in-Some.literal ≡ capped_code l) × GotAt read_literal c.args.text.now (c.loop-next.next + 1) c.in-Some.after l =
+    literal_got (omega (arith, (byte_got _ _ _ (spaced)).1)) (sym c.in-Some.ensures) in
     let got = read in
     let inv = c.loop-next.invariant in
     let kept : c.store.new.table ≡ stored (ltb (capped_code got.0) 65536) c.loop-next.literals (c.args.from + c.loop-next.count) (capped_code got.0) =

@@ -1,6 +1,6 @@
 -- `lists::read_terms` meets its contract: the terms read so far are stored, and the rest are read where the loop has come to.
 use Prim.Native.Nat.{◌+◌}
-use mathlib.Core.Path.{◌≡◌, sym, ◌∙◌}
+use mathlib.Core.Path.{◌≡◌, refl, sym, ◌∙◌}
 use mathlib.Core.Bool.{true}
 use mathlib.Core.List.{[], ◌∷◌}
 use native.Mathlib.Omega.{arith}
@@ -25,12 +25,12 @@ overflow_add-next c =
     sym c.byte_at.ensures ∙ c.loop-next-test.true in
     let l = (byte_got _ _ _ (spaced)).1 in omega (arith, c.requires.inside.short)
 
-pub returns-in_err-term : goal.returns-in_err-term
-returns-in_err-term c =
+pub returns-in_default : goal.returns-in_default
+returns-in_default c =
     let spaced : word_at c.args.text.now c.loop-next.next (32 ∷ []) ≡ true =
     sym c.byte_at.ensures ∙ c.loop-next-test.true in
-    listing_refused term_bytes read_term term_inverse c.loop-next.invariant.listing c.from_residual.ensures (spaced)
-    (read_none _ _ _ _ (sym c.in_err-term.ensures))
+    listing_refused term_bytes read_term term_inverse c.loop-next.invariant.listing refl (spaced)
+    (read_none _ _ _ _ (sym c.in_default.ensures))
 
 pub overflow_add-from : goal.overflow_add-from
 overflow_add-from c = omega (arith, terms_count c.loop-next.invariant, c.requires.inside.short, c.requires.from_le_max_terms)
@@ -45,16 +45,16 @@ pub loop-next-smaller : goal.loop-next-smaller
 loop-next-smaller c =
     let spaced : word_at c.args.text.now c.loop-next.next (32 ∷ []) ≡ true =
     sym c.byte_at.ensures ∙ c.loop-next-test.true in
-    let read : term_read_at c.args.text.now (c.loop-next.next + 1) ≡ Some (c.in_ok-term.term, c.in_ok-term.after) =
-    sym c.in_ok-term.ensures in
+    let read : term_read_at c.args.text.now (c.loop-next.next + 1) ≡ Some (c.in-Some.term, c.in-Some.after) =
+    sym c.in-Some.ensures in
     terms_on c.loop-next.invariant (spaced) (read)
 
 pub loop-next-preserved : goal.loop-next-preserved
 loop-next-preserved c =
     let spaced : word_at c.args.text.now c.loop-next.next (32 ∷ []) ≡ true =
     sym c.byte_at.ensures ∙ c.loop-next-test.true in
-    let read : term_read_at c.args.text.now (c.loop-next.next + 1) ≡ Some (c.in_ok-term.term, c.in_ok-term.after) =
-    sym c.in_ok-term.ensures in
+    let read : term_read_at c.args.text.now (c.loop-next.next + 1) ≡ Some (c.in-Some.term, c.in-Some.after) =
+    sym c.in-Some.ensures in
     terms_turn c.loop-next.invariant (spaced) (read) c.store.ensures
     c.store_minutes.ensures c.minutes_within.ensures
 

@@ -1,6 +1,6 @@
 -- `lists::read_values` meets its contract: the pairs read so far are tested and stored, and the rest are read where the loop has come to.
 use Prim.Native.Nat.{◌+◌}
-use mathlib.Core.Path.{◌≡◌, sym, ◌∙◌}
+use mathlib.Core.Path.{◌≡◌, refl, sym, ◌∙◌}
 use mathlib.Core.Bool.{true}
 use mathlib.Core.List.{[], ◌∷◌}
 use native.Mathlib.Omega.{arith}
@@ -25,12 +25,12 @@ overflow_add-next c =
     sym c.byte_at.ensures ∙ c.loop-next-test.true in
     let l = (byte_got _ _ _ (spaced)).1 in omega (arith, c.requires.short)
 
-pub returns-in_err-pair : goal.returns-in_err-pair
-returns-in_err-pair c =
+pub returns-in_default : goal.returns-in_default
+returns-in_default c =
     let spaced : word_at c.args.text.now c.loop-next.next (32 ∷ []) ≡ true =
     sym c.byte_at.ensures ∙ c.loop-next-test.true in
-    listing_refused pair_bytes read_pair pair_inverse c.loop-next.invariant.listing c.from_residual.ensures (spaced)
-    (read_none _ _ _ _ (sym c.in_err-pair.ensures))
+    listing_refused pair_bytes read_pair pair_inverse c.loop-next.invariant.listing refl (spaced)
+    (read_none _ _ _ _ (sym c.in_default.ensures))
 
 pub overflow_add-count : goal.overflow_add-count
 overflow_add-count c = omega (arith, values_count c.loop-next.invariant, c.requires.short)
@@ -39,16 +39,16 @@ pub loop-next-smaller : goal.loop-next-smaller
 loop-next-smaller c =
     let spaced : word_at c.args.text.now c.loop-next.next (32 ∷ []) ≡ true =
     sym c.byte_at.ensures ∙ c.loop-next-test.true in
-    let read : pair_at c.args.text.now (c.loop-next.next + 1) 0 ≡ Some (c.in_ok-pair.pair, c.in_ok-pair.after) =
-    sym c.in_ok-pair.ensures in
+    let read : pair_at c.args.text.now (c.loop-next.next + 1) 0 ≡ Some (c.in-Some.pair, c.in-Some.after) =
+    sym c.in-Some.ensures in
     pairs_on _ _ _ (spaced) (read)
 
 pub loop-next-preserved : goal.loop-next-preserved
 loop-next-preserved c =
     let spaced : word_at c.args.text.now c.loop-next.next (32 ∷ []) ≡ true =
     sym c.byte_at.ensures ∙ c.loop-next-test.true in
-    let read : pair_at c.args.text.now (c.loop-next.next + 1) 0 ≡ Some (c.in_ok-pair.pair, c.in_ok-pair.after) =
-    sym c.in_ok-pair.ensures in
+    let read : pair_at c.args.text.now (c.loop-next.next + 1) 0 ≡ Some (c.in-Some.pair, c.in-Some.after) =
+    sym c.in-Some.ensures in
     values_turn c.loop-next.invariant (spaced) (read) c.store_value.ensures c.store.ensures
 
 pub returns-then-not-byte_at : goal.returns-then-not-byte_at

@@ -22,48 +22,48 @@ overflow_add-at c =
     sym c.byte_at.ensures ∙ c.if-not-byte_at.false in
     let l = (byte_got _ _ _ (opened)).1 in search rules
 
-pub returns-in_err-minutes : goal.returns-in_err-minutes
-returns-in_err-minutes c =
+pub returns-in_default : goal.returns-in_default
+returns-in_default c =
     let opened : word_at c.args.text.now c.args.at (40 ∷ []) ≡ true =
     sym c.byte_at.ensures ∙ c.if-not-byte_at.false in
-    c.from_residual.ensures ∙ sym (term_weightless _ _ (opened) (sym c.in_err-minutes.ensures))
+    sym (term_weightless _ _ (opened) (sym c.in_default.ensures))
 
 pub returns-then-not-byte_at-2 : goal.returns-then-not-byte_at-2
 returns-then-not-byte_at-2 c =
     let opened : word_at c.args.text.now c.args.at (40 ∷ []) ≡ true =
     sym c.byte_at.ensures ∙ c.if-not-byte_at.false in
-    let weighed : signed_at c.args.text.now (c.args.at + 1) ≡ Some (c.in_ok-minutes.minutes, c.in_ok-minutes.after) =
-    sym c.in_ok-minutes.ensures in
+    let weighed : signed_at c.args.text.now (c.args.at + 1) ≡ Some (c.in-Some.minutes, c.in-Some.after) =
+    sym c.in-Some.ensures in
     sym (term_unspaced _ _ (opened) (weighed)
     (sym c.byte_at-2.ensures ∙ c.if-not-byte_at-2.true))
 
 pub overflow_add-after : goal.overflow_add-after
 overflow_add-after c =
-    let spaced : word_at c.args.text.now c.in_ok-minutes.after (32 ∷ []) ≡ true =
+    let spaced : word_at c.args.text.now c.in-Some.after (32 ∷ []) ≡ true =
     sym c.byte_at-2.ensures ∙ c.if-not-byte_at-2.false in
     let l = (byte_got _ _ _ (spaced)).1 in search rules
 
-pub returns-in_err-literal : goal.returns-in_err-literal
-returns-in_err-literal c =
+pub returns-in_default-read_literal : goal.returns-in_default-read_literal
+returns-in_default-read_literal c =
     let opened : word_at c.args.text.now c.args.at (40 ∷ []) ≡ true =
     sym c.byte_at.ensures ∙ c.if-not-byte_at.false in
-    let weighed : signed_at c.args.text.now (c.args.at + 1) ≡ Some (c.in_ok-minutes.minutes, c.in_ok-minutes.after) =
-    sym c.in_ok-minutes.ensures in
-    let spaced : word_at c.args.text.now c.in_ok-minutes.after (32 ∷ []) ≡ true =
+    let weighed : signed_at c.args.text.now (c.args.at + 1) ≡ Some (c.in-Some.minutes, c.in-Some.after) =
+    sym c.in-Some.ensures in
+    let spaced : word_at c.args.text.now c.in-Some.after (32 ∷ []) ≡ true =
     sym c.byte_at-2.ensures ∙ c.if-not-byte_at-2.false in
-    c.from_residual-in_err-literal.ensures ∙ sym (term_literalless _ _ (opened) (weighed) (spaced)
-    (sym c.in_err-literal.ensures))
+    sym (term_literalless _ _ (opened) (weighed) (spaced)
+    (sym c.in_default-read_literal.ensures))
 
 pub returns-then-not-byte_at-3 : goal.returns-then-not-byte_at-3
 returns-then-not-byte_at-3 c =
     let opened : word_at c.args.text.now c.args.at (40 ∷ []) ≡ true =
     sym c.byte_at.ensures ∙ c.if-not-byte_at.false in
-    let weighed : signed_at c.args.text.now (c.args.at + 1) ≡ Some (c.in_ok-minutes.minutes, c.in_ok-minutes.after) =
-    sym c.in_ok-minutes.ensures in
-    let spaced : word_at c.args.text.now c.in_ok-minutes.after (32 ∷ []) ≡ true =
+    let weighed : signed_at c.args.text.now (c.args.at + 1) ≡ Some (c.in-Some.minutes, c.in-Some.after) =
+    sym c.in-Some.ensures in
+    let spaced : word_at c.args.text.now c.in-Some.after (32 ∷ []) ≡ true =
     sym c.byte_at-2.ensures ∙ c.if-not-byte_at-2.false in
     sym (term_unclosed _ _ (opened) (weighed) (spaced)
-    (sym c.in_ok-literal.ensures)
+    (sym c.in-Some-read_literal.ensures)
     (sym c.byte_at-3.ensures ∙ c.if-not-byte_at-3.true))
 
 pub overflow_add-result : goal.overflow_add-result
@@ -73,12 +73,12 @@ pub returns : goal.returns
 returns c =
     let opened : word_at c.args.text.now c.args.at (40 ∷ []) ≡ true =
     sym c.byte_at.ensures ∙ c.if-not-byte_at.false in
-    let weighed : signed_at c.args.text.now (c.args.at + 1) ≡ Some (c.in_ok-minutes.minutes, c.in_ok-minutes.after) =
-    sym c.in_ok-minutes.ensures in
-    let spaced : word_at c.args.text.now c.in_ok-minutes.after (32 ∷ []) ≡ true =
+    let weighed : signed_at c.args.text.now (c.args.at + 1) ≡ Some (c.in-Some.minutes, c.in-Some.after) =
+    sym c.in-Some.ensures in
+    let spaced : word_at c.args.text.now c.in-Some.after (32 ∷ []) ≡ true =
     sym c.byte_at-2.ensures ∙ c.if-not-byte_at-2.false in
     let l = (byte_got _ _ _ (opened)).1 in
     rw (to_z-of_z (signed_fits _ _ (omega arith) (weighed)))
     (sym (term_closed _ _ (opened) (weighed) (spaced)
-    (sym c.in_ok-literal.ensures)
+    (sym c.in-Some-read_literal.ensures)
     (sym c.byte_at-3.ensures ∙ c.if-not-byte_at-3.false)))
